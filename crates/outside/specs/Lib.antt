@@ -1,0 +1,5 @@
+pub mod Cause
+pub mod Contents
+pub mod Written
+pub mod Roots
+pub mod SureSink

@@ -1,0 +1,16 @@
+-- What a sink that never fails was given.
+use Rattle.std.specs.Prelude.{◌&&◌, ℕ, Bool, List, Option, Some, None, take, drop, nat_eq, if◌then◌else◌}
+use Rattle.std.specs.List.{starts_with}
+use Rattle.outside.specs.declared.expecting.SureSink.{SureSink}
+
+-- the bytes that the sink expects
+abbrev pub expected_of : SureSink → List ℕ
+expected_of sink = sink.expected.items
+
+-- the bytes written, as long as they are a front of what is expected
+abbrev pub written_to : SureSink → Option (List ℕ)
+written_to sink = if sink.matches then Some (take sink.count sink.expected.items) else None
+
+-- whether the piece is what is expected next
+abbrev pub is_next : SureSink → List ℕ → Bool
+is_next sink piece = sink.matches && starts_with nat_eq (drop sink.count sink.expected.items) piece
