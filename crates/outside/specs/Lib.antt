@@ -3,3 +3,7 @@ pub mod Contents
 pub mod Written
 pub mod Roots
 pub mod SureSink
+pub mod Memory
+pub mod MemoryTree
+pub mod MemorySink
+pub mod SureTree

@@ -4,6 +4,10 @@
 
 mod containers;
 mod expecting;
+mod forms;
+mod memory;
+mod planned_sink;
+mod planned_tree;
 mod root;
 mod roots;
 mod sink;
@@ -12,7 +16,13 @@ mod tree;
 
 pub use containers::{List, Text};
 pub use expecting::SureSink;
+pub use forms::{memory_sink, memory_tree, sure_sink, sure_tree};
+pub use planned_sink::MemorySink;
+pub use planned_tree::MemoryTree;
 pub use root::Root;
 pub use sink::{Sink, SinkFailed};
-pub use sure::{SureTree, sure_sink, sure_tree};
+pub use sure::SureTree;
 pub use tree::{Tree, TreeError};
+
+#[cfg(test)]
+mod tests;

@@ -1,6 +1,7 @@
 ghost use Rattle.std.specs.Prelude.{IsTrue};
 ghost use Rattle.outside.specs.Contents.{in_order, paths_of};
 
+use crate::roots::are_in_order;
 use crate::{List, Text};
 
 /// A root and its files, for the forms that live in memory.
@@ -12,4 +13,21 @@ pub struct Root {
     pub files: List<(Text, List<u8>)>,
     /// The files are in the order of their paths, and no path repeats.
     pub ghost ordered: { IsTrue (in_order (paths_of files)) },
+}
+
+impl Root {
+    ghost use Rattle.std.specs.Prelude.{◌≡◌, ◌↔◌, IsSome, IfSome};
+
+    /// A root of these files, or nothing where they aren't in the order of their paths or a path repeats.
+    pub fn new(name: Text, files: List<(Text, List<u8>)>) -> Option<Root>
+        ensures ordered { IsSome result ↔ IsTrue (in_order (paths_of files)) }
+        ensures name { IfSome result (λ root. root.name ≡ name) }
+        ensures files { IfSome result (λ root. root.files ≡ files) }
+    {
+        if are_in_order(files.as_slice()) {
+            Some(Root { name, files })
+        } else {
+            None
+        }
+    }
 }

@@ -1,6 +1,6 @@
 //! Looking things up in roots that live in memory.
 ghost use Rattle.std.specs.Prelude.{◌≡◌, IfOk, IfSome, MatchOption, map, None, Some, string_bytes, option_copied, take};
-ghost use Rattle.outside.specs.Contents.{paths_of, file_at};
+ghost use Rattle.outside.specs.Contents.{paths_of, file_at, in_order};
 ghost use Rattle.outside.specs.Roots.{files_of};
 
 use crate::{List, Root, Text};
@@ -47,4 +47,16 @@ pub(crate) fn front(alloc: Global, file: &[u8], at_most: u64) -> Result<Vec<u8>,
 {
     let len = file.len().min(at_most as usize);
     Vec::from_slice(alloc, &file[..len])
+}
+
+/// Whether the files are in the order of their paths, and no path repeats.
+pub(crate) fn are_in_order(files: &[(Text, List<u8>)]) -> bool
+    ensures { result ≡ in_order (paths_of files.now) }
+{
+    for i in 1..files.len() {
+        if files[i - 1].0.as_str() >= files[i].0.as_str() {
+            return false;
+        }
+    }
+    true
 }

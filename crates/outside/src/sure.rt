@@ -1,10 +1,6 @@
-//! The forms that never fail.
-ghost use Rattle.std.specs.Prelude.{◌≡◌, Some, []};
-ghost use Rattle.outside.specs.Roots.{files_of};
-ghost use Rattle.outside.specs.SureSink.{expected_of, written_to};
-
+//! A tree in memory that never fails.
 use crate::roots::{file_at, files_of, front, paths_of};
-use crate::{List, Root, SureSink, Tree, TreeError};
+use crate::{List, Root, Tree, TreeError};
 use std::alloc::Global;
 
 /// A tree in memory that never fails.
@@ -13,28 +9,26 @@ pub struct SureTree {
     roots: List<Root>,
 }
 
-/// A tree of these roots that never fails. A root that isn't listed is empty; of two with one name the first counts.
-pub fn sure_tree(roots: Vec<Root>) -> SureTree
-    ensures { ⟦<SureTree as Tree>⟧.contents result ≡ Some (files_of roots.items) }
-{
-    SureTree {
-        roots: List::of(roots),
-    }
-}
+impl SureTree {
+    ghost use Rattle.std.specs.Prelude.{◌≡◌};
+    ghost use Rattle.outside.specs.Roots.{files_of};
+    ghost use Rattle.outside.specs.SureTree.{contents_of};
 
-/// A sink that expects these bytes and never fails. It was given none so far.
-pub fn sure_sink(expected: Vec<u8>) -> SureSink
-    ensures written { written_to result ≡ Some [] }
-    ensures expected { expected_of result ≡ expected.items }
-{
-    SureSink::new(expected)
+    pub(crate) fn new(roots: Vec<Root>) -> SureTree
+        ensures { contents_of result ≡ files_of roots.items }
+    {
+        SureTree {
+            roots: List::of(roots),
+        }
+    }
 }
 
 impl Tree for SureTree {
     ghost use Rattle.std.specs.Prelude.{Some};
-    ghost use Rattle.outside.specs.Roots.{files_of, files_of-IsOrdered};
+    ghost use Rattle.outside.specs.Roots.{files_of-IsOrdered};
+    ghost use Rattle.outside.specs.SureTree.{contents_of};
 
-    ghost contents = { λ tree. Some (files_of tree.roots) };
+    ghost contents = { λ tree. Some (contents_of tree) };
 
     ghost faults = { λ _. 0 };
 
