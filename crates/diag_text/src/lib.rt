@@ -1,0 +1,10 @@
+//! Lines of output: what a line says, its text, and the order in which lines are written.
+#![tactic(auto)]
+
+mod line;
+mod order;
+mod text;
+
+pub use line::{Line, LineKind};
+pub use order::{sort_lines, sorted_lines_are_in_order, sorted_lines_have_the_lines};
+pub use text::{push_text_line, text_line};
