@@ -6,5 +6,8 @@ mod order;
 mod text;
 
 pub use line::{Line, LineKind};
-pub use order::{sort_lines, sorted_lines_are_in_order, sorted_lines_have_the_lines};
+pub use order::{
+    lines_are_ordered, only_equal_lines_tie, sort_lines, sorted_lines_are_determined,
+    sorted_lines_are_in_order, sorted_lines_have_the_lines,
+};
 pub use text::{push_text_line, text_line};

@@ -28,3 +28,28 @@ pub struct Line {
     pub kind: LineKind,
     pub message: Bytes,
 }
+
+#[cfg(test)]
+pub mod tests {
+    use super::*;
+    use std::alloc::{AllocError, Global};
+
+    /// The line with these parts.
+    pub fn line(
+        alloc: Global,
+        path: &str,
+        place: (u32, u32),
+        kind: LineKind,
+        message: &str,
+    ) -> Result<Line, AllocError> {
+        Ok(Line {
+            path: Bytes::of(Vec::from_slice(alloc, path.as_bytes())?),
+            at: Pos {
+                line: place.0,
+                column: place.1,
+            },
+            kind,
+            message: Bytes::of(Vec::from_slice(alloc, message.as_bytes())?),
+        })
+    }
+}
