@@ -1,5 +1,5 @@
 -- Lines of output: their text, and their order.
-use Rattle.std.specs.Prelude.{ℕ, ◌==◌, ◌||◌, nat_lt, if◌then◌else◌, List, [], ◌∷◌, ◌++◌, map, codes, decimal}
+use Rattle.std.specs.Prelude.{ℕ, ◌≤◌, ◌≢◌, ◌==◌, ◌||◌, nat_lt, if◌then◌else◌, List, [], ◌∷◌, ◌++◌, map, codes, decimal}
 use Rattle.std.specs.declared.cmp.Ordering.{Ordering}
 use Rattle.std.specs.Ordering.{nat_cmp, on, then_cmp}
 use Rattle.std.specs.Cmp.Lexicographic.{slice_cmp}
@@ -15,6 +15,10 @@ printable_byte byte = if nat_lt byte 32 || byte == 127 then 63 else byte
 -- some bytes as a text line shows them
 abbrev pub printable : List ℕ → List ℕ
 printable bytes = map printable_byte bytes
+
+-- a byte that is no control character
+abbrev pub IsPrintable : ℕ → Type 0
+IsPrintable byte = (32 ≤ byte) × (byte ≢ 127)
 
 -- a line as text: PATH:LINE:COLUMN: MESSAGE and a line feed
 abbrev pub text_of : Line → List ℕ

@@ -55,7 +55,7 @@ mod tests {
 
     /// Lines in order, each with the first part in which it comes after the line before.
     fn in_order(alloc: Global) -> Result<Vec<Line>, AllocError> {
-        let mut lines = Vec::new(alloc);
+        let mut written = Vec::new(alloc);
         for (path, place, kind, message) in [
             ("Z.luau", (9u32, 9u32), LineKind::Value, "z"),
             // the path, by bytes
@@ -80,9 +80,9 @@ mod tests {
             ("a.luau.luau", (1, 1), LineKind::Refused, ""),
             ("a/b.luau", (1, 1), LineKind::Refused, ""),
         ] {
-            lines.push(line(alloc, path, place, kind, message)?)?;
+            written.push(line(alloc, path, place, kind, message)?)?;
         }
-        Ok(lines)
+        Ok(written)
     }
 
     #[test]

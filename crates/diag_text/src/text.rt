@@ -1,5 +1,5 @@
-ghost use Rattle.std.specs.Prelude.{◌≡◌, ◌++◌, take, vec_len, IfOk, OnOk, OnErr};
-ghost use Rattle.diag_text.specs.Line.{printable_byte, printable, text_of};
+ghost use Rattle.std.specs.Prelude.{◌≡◌, ◌++◌, ℕ, List, All, codes, take, vec_len, IfOk, OnOk, OnErr};
+ghost use Rattle.diag_text.specs.Line.{printable_byte, printable, IsPrintable, text_of};
 
 use crate::line::Line;
 use itoa::Buffer;
@@ -63,6 +63,19 @@ fn shown(byte: u8) -> u8
     } else {
         byte
     }
+}
+
+/// Bytes without control characters are shown as they are.
+pub fn printable_bytes_are_kept(bytes: &[u8])
+    requires { All IsPrintable bytes.now }
+    ensures { printable bytes.now ≡ bytes.now }
+{}
+
+/// The text of a line is one line: its only control character is the line feed at its end.
+pub fn a_text_line_is_one_line(line: &Line)
+    ensures { (shown : List ℕ) × (text_of line.now ≡ shown ++ codes "\n") × All IsPrintable shown }
+{
+    let (_line, _column) = (line.at.line, line.at.column);
 }
 
 #[cfg(test)]
