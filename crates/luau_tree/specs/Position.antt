@@ -20,11 +20,6 @@ pos_at text offset = record { line = line_of text offset; column = column_of tex
 abbrev pub place_after : Pos → ℕ → Pos
 place_after pos byte = if byte == 10 then record { line = pos.line + 1; column = 1 } else record { line = pos.line; column = pos.column + 1 }
 
--- how far a text was gone through
-pub record Progress : Type 0 where
-  pub text : List ℕ
-  pub offset : ℕ
-
 -- a place belongs to an offset within a text of at most 1,048,576 bytes
 pub record PosStands (text : List ℕ) (offset : ℕ) (pos : Pos) : Type 0 where
   pub within : offset ≤ length text

@@ -54,7 +54,7 @@ fn place_from(text: &[u8], start: usize, pos: Pos, end: usize) -> Pos
     pos
 }
 
-/// Tells places in a text, for offsets that never go back, in one pass over the text.
+/// Tells places in a text. Where the offsets that are asked for never go back, it goes over the text once.
 #[derive(Debug, Drop)]
 pub struct Cursor<'a> {
     text: &'a [u8],
@@ -63,20 +63,21 @@ pub struct Cursor<'a> {
 }
 
 impl<'a> Model for Cursor<'a> {
-    ghost use Rattle.luau_tree.specs.Position.{Progress, PosStands};
+    ghost use Rattle.std.specs.Prelude.{List, ℕ};
+    ghost use Rattle.luau_tree.specs.Position.{PosStands};
 
-    ghost Value = { Progress };
+    ghost Value = { List ℕ };
 
-    ghost view = { λ c. record { text = c.text.now; offset = c.offset } };
+    ghost view = { λ c. c.text.now };
 
     ghost invariant = { λ c. PosStands c.text.now c.offset c.pos };
 }
 
 impl<'a> Cursor<'a> {
-    /// A cursor at the start of the text, which has at most 1,048,576 bytes.
+    /// A cursor over the text, which has at most 1,048,576 bytes. It stands at the start.
     pub fn new(text: &'a [u8]) -> Cursor<'a>
         requires { length text.now ≤ MAX_TEXT }
-        ensures { result ≡ record { text = text.now; offset = 0 } }
+        ensures { result ≡ text.now }
     {
         Cursor {
             text,
@@ -85,15 +86,18 @@ impl<'a> Cursor<'a> {
         }
     }
 
-    /// The place of an offset, which isn't before the one that was asked for last. The cursor then stands there.
-    pub fn advance(&mut self, offset: u32) -> Pos
-        requires forward { self.old.offset ≤ offset }
-        requires within { offset ≤ length self.old.text }
-        ensures place { result ≡ pos_at self.old.text offset }
-        ensures stands { self.new ≡ record self.old { offset = offset } }
+    /// The place of an offset, at which the cursor then stands.
+    pub fn place(&mut self, offset: u32) -> Pos
+        requires { offset ≤ length self.old }
+        ensures place { result ≡ pos_at self.old offset }
+        ensures same { self.new ≡ self.old }
     {
         let end = offset as usize;
-        let pos = place_from(self.text, self.offset, self.pos, end);
+        let pos = if self.offset <= end {
+            place_from(self.text, self.offset, self.pos, end)
+        } else {
+            place_from(self.text, 0, Pos { line: 1, column: 1 }, end)
+        };
         self.pos = pos;
         self.offset = end;
         pos
@@ -108,7 +112,7 @@ pub fn pos_of(text: &[u8], offset: u32) -> Pos
     requires short { length text.now ≤ MAX_TEXT }
     ensures { result ≡ pos_at text.now offset }
 {
-    Cursor::new(text).advance(offset)
+    Cursor::new(text).place(offset)
 }
 
 #[cfg(test)]
@@ -130,5 +134,13 @@ mod tests {
             assert_eq!(rt; pos_of(text, offset), Pos { line, column }, "at {offset}");
         }
         assert_eq!(rt; pos_of(b"", 0), Pos { line: 1, column: 1 });
+    }
+
+    #[test]
+    fn a_cursor_may_go_back(rt: HostRuntime) {
+        let mut cursor = Cursor::new(b"ab\ncd");
+        for (offset, line, column) in [(4u32, 2u32, 2u32), (5, 2, 3), (1, 1, 2), (3, 2, 1)] {
+            assert_eq!(rt; cursor.place(offset), Pos { line, column }, "at {offset}");
+        }
     }
 }
