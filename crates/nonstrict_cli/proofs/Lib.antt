@@ -1,1 +1,5 @@
 pub mod Faults
+pub mod PathOrder
+pub mod Gathering
+pub mod Pieces
+pub mod Ends

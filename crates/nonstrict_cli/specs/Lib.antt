@@ -1,3 +1,10 @@
 pub mod Form
 pub mod Class
 pub mod Seen
+pub mod Command
+pub mod Status
+pub mod Folder
+pub mod Output
+pub mod Stop
+pub mod Written
+pub mod Answer

@@ -1,5 +1,5 @@
 //! Reads the form that is built so far: calls of `math.abs`, each with one literal.
-ghost use Rattle.std.specs.Prelude.{◌≡◌, ◌+◌, ◌≤◌, ◌<◌, ◌^◌, ◌++◌, IfOk, IfSome, OnOk, length, option_copied, option_map};
+ghost use Rattle.std.specs.Prelude.{◌≡◌, ◌+◌, ◌≤◌, ◌<◌, ◌^◌, ◌++◌, All, IfOk, IfSome, OnOk, length, option_copied, option_map};
 ghost use Rattle.std.specs.List.{prefix_len};
 ghost use Rattle.nonstrict_cli.specs.Form.{after, arguments, call, callee, fault_of, faults, literal, number, other, past, quoted, word};
 ghost use Rattle.nonstrict_cli.specs.Seen.{call_seen, literal_seen, seen_of};
@@ -178,7 +178,8 @@ fn read_call(text: &[u8]) -> Option<Call<'_>>
 fn push_fault(found: &mut Vec<u32>, len: usize, call: Call<'_>) -> Result<(), AllocError>
     requires short { len < 2 ^ 32 }
     requires within { length call.from.now ≤ len }
-    ensures { OnOk result (found.new.items ≡ found.old.items ++ fault_of len (seen_of call.entry)) }
+    ensures faults { OnOk result (found.new.items ≡ found.old.items ++ fault_of len (seen_of call.entry)) }
+    ensures within { All (λ offset. offset ≤ len) found.old.items → OnOk result (All (λ offset. offset ≤ len) found.new.items) }
 {
     if call.fails {
         found.push((len - call.from.len()) as u32)?;
@@ -190,7 +191,8 @@ fn push_fault(found: &mut Vec<u32>, len: usize, call: Call<'_>) -> Result<(), Al
 /// built form. Goes over the text once.
 pub(crate) fn read_faults(alloc: Global, text: &[u8]) -> Result<Option<Vec<u32>>, AllocError>
     requires { length text.now < 2 ^ 32 }
-    ensures { IfOk result (λ found. option_map (λ offsets. offsets.items) found ≡ faults text.now) }
+    ensures faults { IfOk result (λ found. option_map (λ offsets. offsets.items) found ≡ faults text.now) }
+    ensures within { IfOk result (λ found. IfSome found (λ offsets. All (λ offset. offset ≤ length text.now) offsets.items)) }
 {
     let mut found = Vec::new(alloc);
     let mut rest = Class::Blank.past(text);

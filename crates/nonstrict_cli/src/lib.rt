@@ -1,4 +1,21 @@
 //! The top call: words and a folder in, lines and a status out.
 #![tactic(auto)]
 
+mod answer;
+mod file;
+mod folder;
 mod form;
+mod limits;
+mod nonstrict_call;
+mod paths;
+mod status;
+mod stop;
+mod words;
+mod write;
+
+pub use limits::{MAX_FILES, MAX_READ, MAX_TOTAL};
+pub use nonstrict_call::nonstrict;
+pub use status::{Limit, Status};
+
+#[cfg(test)]
+mod tests;

@@ -1,0 +1,15 @@
+-- Writing a text piece by piece.
+use Rattle.std.proofs.Common.{◌≡◌, ◌+◌, ◌≤◌, ◌++◌, ℕ, List, Option, None, Some, length, take, drop, sym, ap, ◌∙◌, append_assoc, IsSomeAnd}
+use Rattle.outside.specs.Written.{Appends}
+use Rattle.outside.proofs.Fronts.{take-add}
+
+-- one piece after the other is both
+joined : (first second third : Option (List ℕ)) (xs ys : List ℕ) → Appends first second xs → Appends second third ys → Appends first third (xs ++ ys)
+joined first second None xs ys a b = tt
+joined first None (Some now) xs ys a b = absurd b
+joined None (Some then) (Some now) xs ys a b = absurd a
+joined (Some at) (Some then) (Some now) xs ys a b = b ∙ ap (λ l. l ++ ys) a ∙ append_assoc at xs ys
+
+-- a front of the rest goes behind the front that is written
+pub appended : (first second third : Option (List ℕ)) (text : List ℕ) (done count : ℕ) → done ≤ length text → Appends first second (take done text) → Appends second third (take count (drop done text)) → Appends first third (take (done + count) text)
+appended first second third text done count h a b = rw (take-add text done count h) (joined first second third (take done text) (take count (drop done text)) a b)

@@ -1,0 +1,24 @@
+use Rattle.std.proofs.Common.{◌≡◌, None, Err, map, string_bytes, ap, sym}
+use Rattle.nonstrict_cli.proofs.Ends.{ended_bytes, ended_status, not_read_fault, not_silent, not_usage, not_write_fault}
+use Rattle.nonstrict_cli.proofs.nonstrict_call.nonstrict.Goals as goal
+
+pub returns-in-Err-clause-status : goal.returns-in-Err-clause-status
+returns-in-Err-clause-status g c =
+    rw c.into.ensures (ended_status (map string_bytes c.args.words.now) (g.T.Tree.contents c.args.tree.now) c.in-Err.stop (λ e. c.in-Err.ensures.usage.0 (ap Err e)) (λ limit e. c.in-Err.ensures.too_large limit (ap Err e)))
+
+pub returns-in-Err-clause-written : goal.returns-in-Err-clause-written
+returns-in-Err-clause-written g c =
+    rw c.into.ensures (ended_bytes (map string_bytes c.args.words.now) (g.T.Tree.contents c.args.tree.now) c.in-Err.stop (g.S.Sink.written c.args.sink.now) (λ e. c.in-Err.ensures.usage.0 (ap Err e)) (λ limit e. c.in-Err.ensures.too_large limit (ap Err e)))
+
+-- words that are no command give no answer to write
+pub returns-then-write_whole-clause-usage : goal.returns-then-write_whole-clause-usage
+returns-then-write_whole-clause-usage g c = (λ e. absurd (not_usage c.in-Ok.answer.status c.in-Ok.ensures.checked e), λ none. let never = c.in-Ok.ensures.usage.1 none in cc)
+
+pub returns-then-write_whole-clause-read_fault : goal.returns-then-write_whole-clause-read_fault
+returns-then-write_whole-clause-read_fault g c = λ e. absurd (not_read_fault c.in-Ok.answer.status c.in-Ok.ensures.checked e)
+
+pub returns-then-write_whole-clause-write_fault : goal.returns-then-write_whole-clause-write_fault
+returns-then-write_whole-clause-write_fault g c = λ e. absurd (not_write_fault c.in-Ok.answer.status c.in-Ok.ensures.checked e)
+
+pub returns-then-write_whole-clause-silent : goal.returns-then-write_whole-clause-silent
+returns-then-write_whole-clause-silent g c = λ h. absurd (not_silent c.in-Ok.answer.status c.in-Ok.ensures.checked h)

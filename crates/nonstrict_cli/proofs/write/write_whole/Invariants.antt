@@ -1,0 +1,11 @@
+use Rattle.std.proofs.Common.{◌≡◌, ◌≤◌, ◌-◌, length, take}
+use Rattle.outside.specs.Written.{Appends}
+use Rattle.nonstrict_cli.proofs.write.write_whole.Given as goal
+
+-- what is done is written, and nothing failed
+abbrev pub invariant-loop-done : goal.invariant-loop-done
+invariant-loop-done g l = (l.done ≤ length l.text) × Appends (g.S.Sink.written l.initial.sink) (g.S.Sink.written l.sink) (take l.done l.text) × (g.S.Sink.faults l.sink ≡ g.S.Sink.faults l.initial.sink)
+
+-- each write takes at least one byte
+abbrev pub decreases-loop-done : goal.decreases-loop-done
+decreases-loop-done g l = length l.text - l.done

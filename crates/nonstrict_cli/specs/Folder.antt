@@ -1,0 +1,65 @@
+-- The lines of a folder.
+use Rattle.std.specs.Prelude.{◌+◌, ◌++◌, ◌||◌, ◌==◌, ℕ, Bool, List, [], ◌∷◌, Option, None, Some, unwrap_or, map, filter, flat_map, take, length, nat_eq, nat_lt, codes, if◌then◌else◌, option_map, string_bytes}
+use Rattle.std.specs.BTreeSet.{insert_key}
+use Rattle.std.specs.List.{ends_with}
+use Rattle.luau_tree.specs.declared.position.TheConstants.{MAX_TEXT}
+use Rattle.luau_tree.specs.Position.{pos_at}
+use Rattle.diag_text.specs.declared.line.Line.{Line}
+use Rattle.diag_text.specs.declared.line.LineKind.TheVariants.{Refused, Argument}
+use Rattle.diag_text.specs.Line.{bytes_cmp, sorted_lines}
+use Rattle.outside.specs.Contents.{File, file_at, paths_of}
+use Rattle.nonstrict_cli.specs.declared.status.Limit.{Limit}
+use Rattle.nonstrict_cli.specs.declared.status.Limit.TheVariants.{Files, Bytes}
+use Rattle.nonstrict_cli.specs.declared.limits.TheConstants.{MAX_FILES, MAX_READ, MAX_TOTAL}
+use Rattle.nonstrict_cli.specs.Form.{faults}
+
+-- whether a path is that of a module: it ends in `.luau` or in `.lua`
+abbrev pub is_module_path : List ℕ → Bool
+is_module_path path = ends_with nat_eq path (codes ".luau") || ends_with nat_eq path (codes ".lua")
+
+-- some paths in the order of their bytes, each once: every path is put in its place among the others, unless it is there already
+abbrev pub sorted_paths : List (List ℕ) → List (List ℕ)
+sorted_paths [] = []
+sorted_paths (path ∷ rest) = insert_key bytes_cmp (sorted_paths rest) path
+
+-- the paths of the modules among some paths, in order
+abbrev pub modules_among : List (List ℕ) → List (List ℕ)
+modules_among paths = sorted_paths (filter is_module_path paths)
+
+-- the paths of the modules of a folder, in order
+abbrev pub module_paths : List File → List (List ℕ)
+module_paths files = modules_among (paths_of files)
+
+-- what is read of the file at a path: its bytes, or the first 1,048,577 of them
+abbrev pub source : List File → List ℕ → List ℕ
+source files path = take MAX_READ (unwrap_or (file_at files path) [])
+
+-- the line of a file that isn't checked
+abbrev pub refusal_line : List ℕ → List ℕ → Line
+refusal_line path why = record { path = path; at = record { line = 1; column = 1 }; kind = Refused; message = codes "refused: " ++ why }
+
+-- the line of a call that always fails, by the offset of its literal
+abbrev pub argument_line : List ℕ → List ℕ → ℕ → Line
+argument_line path text offset = record { path = path; at = pos_at text offset; kind = Argument; message = codes "argument 1 of math.abs always fails" }
+
+-- the lines of a text by the offsets of the literals that fail in it, or a refusal where there are none since the text isn't of the built form
+abbrev pub lines_at : List ℕ → List ℕ → Option (List ℕ) → List Line
+lines_at path text None = refusal_line path (codes "form not built") ∷ []
+lines_at path text (Some offsets) = map (argument_line path text) offsets
+
+-- the lines of a file: a refusal where it has more than 1,048,576 bytes or isn't of the built form, else one for each call that fails
+abbrev pub lines_of_file : List ℕ → List ℕ → List Line
+lines_of_file path text = if nat_lt MAX_TEXT (length text) then refusal_line path (codes "file too large") ∷ [] else lines_at path text (faults text)
+
+-- the lines of a folder: those of all its modules, sorted and each once
+abbrev pub lines_of : List File → List Line
+lines_of files = sorted_lines (flat_map (λ path. lines_of_file path (source files path)) (module_paths files))
+
+-- the first sum of these sizes that passes the limit on bytes, from a sum before them
+abbrev pub first_over : ℕ → List ℕ → Option ℕ
+first_over before [] = None
+first_over before (size ∷ sizes) = if nat_lt MAX_TOTAL (before + size) then Some (before + size) else first_over (before + size) sizes
+
+-- the limit that a folder passes: on the number of its modules, or else on the bytes that are read
+abbrev pub limit_of : List File → Option Limit
+limit_of files = if nat_lt MAX_FILES (length (module_paths files)) then Some (Files (length (module_paths files))) else option_map Bytes (first_over 0 (map (λ path. length (source files path)) (module_paths files)))

@@ -1,0 +1,68 @@
+//! Reads the modules of a folder and gathers their lines.
+ghost use Rattle.std.specs.Prelude.{◌≡◌, ◌≢◌, ◌+◌, ◌<◌, ◌≤◌, ◌++◌, ℕ, None, Some, IfOk, IfSome, IsSome, OnOk, length};
+ghost use Rattle.outside.specs.Cause.{Rose};
+ghost use Rattle.outside.specs.Contents.{file_at};
+ghost use Rattle.nonstrict_cli.specs.declared.status.Limit.{Limit};
+ghost use Rattle.nonstrict_cli.specs.Folder.{limit_of, lines_of, lines_of_file, source};
+
+use crate::file::push_lines;
+use crate::paths::modules_among;
+use crate::stop::Stop;
+use crate::{Limit, MAX_FILES, MAX_READ, MAX_TOTAL};
+use diag_text::{Line, sort_lines};
+use outside::Tree;
+use std::alloc::Global;
+
+/// Reads a file, adds its size to the sum of all sizes so far, and its lines to all lines so far.
+fn add_file<T: Tree>(
+    alloc: Global,
+    tree: &mut T,
+    folder: &str,
+    path: &str,
+    total: &mut u64,
+    lines: &mut Vec<Line>,
+) -> Result<(), Stop>
+    requires { total.old ≤ MAX_TOTAL }
+    ensures lines { OnOk result (IfSome (T.contents tree.old) (λ told. lines.new.items ≡ lines.old.items ++ lines_of_file path.now (source (told folder.now) path.now))) }
+    ensures total { OnOk result (IfSome (T.contents tree.old) (λ told. total.new ≡ total.old + length (source (told folder.now) path.now))) }
+    ensures within { OnOk result (total.new ≤ MAX_TOTAL) }
+    ensures too_large { (limit : Limit) → result ≡ Err (Stop.TooLarge limit) → IfSome (T.contents tree.old) (λ told. (limit ≡ Limit.Bytes (total.old + length (source (told folder.now) path.now))) × (MAX_TOTAL < total.old + length (source (told folder.now) path.now))) }
+    ensures read_fault { result ≡ Err Stop.ReadFault → IfSome (T.contents tree.old) (λ told. IsSome (file_at (told folder.now) path.now)) → Rose (T.faults tree.old) (T.faults tree.new) }
+    ensures quiet { result ≢ Err Stop.ReadFault → T.faults tree.new ≡ T.faults tree.old }
+    ensures no_usage { result ≢ Err Stop.Usage }
+    ensures same { T.contents tree.new ≡ T.contents tree.old }
+{
+    let text = tree.read(alloc, folder, path, MAX_READ)?;
+    *total += text.len() as u64;
+    if *total > MAX_TOTAL {
+        return Err(Stop::TooLarge(Limit::Bytes(*total)));
+    }
+    push_lines(alloc, path, &text, lines)?;
+    Ok(())
+}
+
+/// The lines of a folder, or why there are none.
+pub(crate) fn folder_lines<T: Tree>(
+    alloc: Global,
+    tree: &mut T,
+    folder: &str,
+) -> Result<Vec<Line>, Stop>
+    ensures within { OnOk result (IfSome (T.contents tree.old) (λ told. limit_of (told folder.now) ≡ None)) }
+    ensures lines { IfOk result (λ lines. IfSome (T.contents tree.old) (λ told. lines.items ≡ lines_of (told folder.now))) }
+    ensures too_large { (limit : Limit) → result ≡ Err (Stop.TooLarge limit) → IfSome (T.contents tree.old) (λ told. limit_of (told folder.now) ≡ Some limit) }
+    ensures read_fault { result ≡ Err Stop.ReadFault → Rose (T.faults tree.old) (T.faults tree.new) }
+    ensures quiet { result ≢ Err Stop.ReadFault → T.faults tree.new ≡ T.faults tree.old }
+    ensures no_usage { result ≢ Err Stop.Usage }
+    ensures same { T.contents tree.new ≡ T.contents tree.old }
+{
+    let paths = modules_among(alloc, tree.list(alloc, folder)?)?;
+    if paths.len() > MAX_FILES {
+        return Err(Stop::TooLarge(Limit::Files(paths.len() as u64)));
+    }
+    let mut total = 0;
+    let mut lines = Vec::new(alloc);
+    for path in &paths {
+        add_file(alloc, tree, folder, path.as_str(), &mut total, &mut lines)?;
+    }
+    Ok(sort_lines(lines)?)
+}

@@ -1,0 +1,56 @@
+//! The top call.
+ghost use Rattle.std.specs.Prelude.{◌≡◌, ◌<◌, ◌↔◌, None, IfSome, map, string_bytes};
+ghost use Rattle.outside.specs.Cause.{Rose};
+ghost use Rattle.outside.specs.Written.{Appends};
+ghost use Rattle.nonstrict_cli.specs.Command.{command};
+ghost use Rattle.nonstrict_cli.specs.Output.{output};
+ghost use Rattle.nonstrict_cli.specs.Status.{IsAnswer, IsSilent};
+ghost use Rattle.nonstrict_cli.specs.Written.{AppendsPart};
+
+use crate::Status;
+use crate::answer::make_answer;
+use crate::write::write_whole;
+use outside::{Sink, Tree};
+use std::alloc::Global;
+
+/// Checks the folder that the words name, writes the lines, and says how the run ended. The words are those after the
+/// program's name.
+///
+/// What is written, and the status, are those of `Output` in `docs/PROGRAM.md`. All text is built before the first
+/// write, and no memory is taken from then on.
+pub fn nonstrict<T: Tree, S: Sink>(
+    alloc: Global,
+    words: &[String],
+    tree: &mut T,
+    sink: &mut S,
+) -> Status
+    // Usage comes exactly where the words are no command.
+    ensures usage { (result ≡ Status.Usage) ↔ (command (map string_bytes words.now) ≡ None) }
+
+    // An answer is that of the output, and the output is appended whole.
+    ensures status { IsAnswer result → IfSome (T.contents tree.old) (λ contents. result ≡ (output (map string_bytes words.now) contents).status) }
+    ensures written { IsAnswer result → IfSome (T.contents tree.old) (λ contents. Appends (S.written sink.old) (S.written sink.new) (output (map string_bytes words.now) contents).bytes) }
+
+    // The other statuses have a cause. Want of memory has none, and comes before the first write.
+    ensures read_fault { result ≡ Status.ReadFault → Rose (T.faults tree.old) (T.faults tree.new) }
+    ensures read_fault_always { T.faults tree.old < T.faults tree.new → result ≡ Status.ReadFault }
+    ensures write_fault { result ≡ Status.WriteFault → Rose (S.faults sink.old) (S.faults sink.new) }
+    ensures write_fault_always { S.faults sink.old < S.faults sink.new → result ≡ Status.WriteFault }
+    ensures silent { IsSilent result → sink.new ≡ sink.old }
+
+    // A run that breaks off has written a front of the output, and not the whole.
+    ensures part { result ≡ Status.WriteFault → IfSome (T.contents tree.old) (λ contents. AppendsPart (S.written sink.old) (S.written sink.new) (output (map string_bytes words.now) contents).bytes) }
+
+    ensures same { T.contents tree.new ≡ T.contents tree.old }
+{
+    match make_answer(alloc, words, tree) {
+        Err(stop) => stop.into(),
+        Ok(answer) => {
+            if write_whole(sink, answer.text.as_slice()) {
+                answer.status
+            } else {
+                Status::WriteFault
+            }
+        }
+    }
+}

@@ -1,0 +1,264 @@
+//! Runs of the top call over folders in memory.
+use crate::{Limit, Status, nonstrict};
+use outside::{List, MemorySink, Root, Text, memory_sink, memory_tree};
+use std::alloc::Global;
+use std::test::Fail;
+
+const NO_ABS: &str = "a.luau:1:1: refused: form not built\n";
+
+/// The root `d` with these files, which are in the order of their paths.
+fn root(alloc: Global, files: &[(&str, &[u8])]) -> Result<Root, Fail> {
+    let mut list = Vec::new(alloc);
+    for (path, bytes) in files {
+        let path = Text::of(String::from_str(alloc, path)?);
+        list.push((path, List::of(Vec::from_slice(alloc, bytes)?)))?;
+    }
+    let name = Text::of(String::from_str(alloc, "d")?);
+    Ok(Root::new(name, List::of(list)).ok_or("not in order")?)
+}
+
+/// The status of a run with the words over the root and the sink, where these calls of the tree fail.
+fn run(
+    alloc: Global,
+    words: &[&str],
+    root: Root,
+    failing: &[u64],
+    sink: &mut MemorySink,
+) -> Result<Status, Fail> {
+    let mut list = Vec::new(alloc);
+    for word in words {
+        list.push(String::from_str(alloc, word)?)?;
+    }
+    let mut tree = memory_tree(vec![in alloc; root]?, Vec::from_slice(alloc, failing)?);
+    Ok(nonstrict(alloc, &list, &mut tree, sink))
+}
+
+fn any_sink(alloc: Global) -> Result<MemorySink, Fail> {
+    Ok(memory_sink(alloc, 4096, 4096, vec![in alloc]?, vec![in alloc]?)?)
+}
+
+#[test]
+fn one_file_gives_its_lines(rt: HostRuntime) -> Result<(), Fail> {
+    let alloc = rt.alloc();
+    let fails = "argument 1 of math.abs always fails";
+    for (text, place, code) in [
+        ("math.abs(\"hi\")", "1:10", 1u8),
+        ("math.abs(1)", "", 0),
+        ("math.abs(007)", "", 0),
+        ("", "", 0),
+        (" \t\n\r\u{b}\u{c}", "", 0),
+        ("math.abs(1)\nmath.abs(nil)", "2:10", 1),
+        ("math.abs(nil)", "1:10", 1),
+        ("math.abs(true)", "1:10", 1),
+        ("math.abs(false)", "1:10", 1),
+        ("math.abs(\"\u{e9}\u{1}'\")", "1:10", 1),
+        (
+            " \t\n\r\u{b}\u{c}math \n.\r\n abs\t\u{b}\u{c}\r ( \n\"\" \n)\n",
+            "6:2",
+            1,
+        ),
+    ] {
+        let root = root(alloc, &[("a.luau", text.as_bytes())])?;
+        let mut sink = any_sink(alloc)?;
+        let status = run(alloc, &["d"], root, &[], &mut sink)?;
+        assert_eq!(rt; status.code(), code, "of {text:?}");
+        let line = format!(in alloc; "a.luau:{place}: {fails}\n")?;
+        let expected = if place.is_empty() {
+            b"".as_slice()
+        } else {
+            line.as_bytes()
+        };
+        assert_eq!(rt; sink.written(), expected, "of {text:?}");
+    }
+    Ok(())
+}
+
+#[test]
+fn other_texts_are_refused(rt: HostRuntime) -> Result<(), Fail> {
+    let alloc = rt.alloc();
+    for text in [
+        "local x",
+        "math.abs\n(1)",
+        "math.abs(\"a\\n\")",
+        "math.abs(\"a\nb\")",
+        "math.abs(\"a\rb\")",
+        "math.abs(1",
+        "math.abs()",
+        "math.abs(nilx)",
+        "math.abs(1x)",
+        "math.abs(-1)",
+        "math.abs(1);",
+        "math.ab(1)",
+        "math.abs(1) x",
+        "Math.abs(1)",
+    ] {
+        let root = root(alloc, &[("a.luau", text.as_bytes())])?;
+        let mut sink = any_sink(alloc)?;
+        let status = run(alloc, &["d"], root, &[], &mut sink)?;
+        assert_eq!(rt; status, Status::Refused, "of {text:?}");
+        assert_eq!(rt; sink.written(), NO_ABS.as_bytes(), "of {text:?}");
+    }
+    let whole = b"math . abs ( \"hi\" )".as_slice();
+    for len in 1..whole.len() {
+        let root = root(alloc, &[("a.luau", &whole[..len])])?;
+        let mut sink = any_sink(alloc)?;
+        let status = run(alloc, &["d"], root, &[], &mut sink)?;
+        assert_eq!(rt; status, Status::Refused, "of the first {len} bytes");
+        assert_eq!(rt;
+            sink.written(),
+            NO_ABS.as_bytes(),
+            "of the first {len} bytes"
+        );
+    }
+    Ok(())
+}
+
+#[test]
+fn files_stand_in_the_order_of_their_paths(rt: HostRuntime) -> Result<(), Fail> {
+    let alloc = rt.alloc();
+    let mut sink = any_sink(alloc)?;
+    let files = root(
+        alloc,
+        &[
+            ("a.luau", b"math.abs(\"a\")".as_slice()),
+            ("b\n.lua", b"x".as_slice()),
+            ("b.luau", b"math.abs(true) math.abs(\"b\")".as_slice()),
+            ("c.txt", b"math.abs(nil)".as_slice()),
+        ],
+    )?;
+    assert_eq!(rt; run(alloc, &["d"], files, &[], &mut sink)?, Status::Refused);
+    let expected = "a.luau:1:10: argument 1 of math.abs always fails\n\
+        b?.lua:1:1: refused: form not built\n\
+        b.luau:1:10: argument 1 of math.abs always fails\n\
+        b.luau:1:25: argument 1 of math.abs always fails\n";
+    assert_eq!(rt; sink.written(), expected.as_bytes());
+
+    let mut sink = any_sink(alloc)?;
+    let files = root(alloc, &[])?;
+    assert_eq!(rt; run(alloc, &["d"], files, &[], &mut sink)?, Status::Clean);
+    assert_eq!(rt; sink.written(), b"".as_slice());
+    Ok(())
+}
+
+#[test]
+fn other_words_are_no_command(rt: HostRuntime) -> Result<(), Fail> {
+    let alloc = rt.alloc();
+    for words in [
+        [].as_slice(),
+        [""].as_slice(),
+        ["-x"].as_slice(),
+        ["sample:1"].as_slice(),
+        ["d", "d"].as_slice(),
+    ] {
+        let files = root(alloc, &[("a.luau", b"x".as_slice())])?;
+        let mut sink = any_sink(alloc)?;
+        let status = run(alloc, words, files, &[], &mut sink)?;
+        assert_eq!(rt; status, Status::Usage, "of {words:?}");
+        assert_eq!(rt; status.code(), 64);
+        assert_eq!(rt; sink.written(), b"".as_slice());
+    }
+    Ok(())
+}
+
+#[test]
+fn a_folder_that_fails_gives_nothing(rt: HostRuntime) -> Result<(), Fail> {
+    let alloc = rt.alloc();
+    for failing in [0u64, 1, 2] {
+        let files = root(
+            alloc,
+            &[("a.luau", b"x".as_slice()), ("b.luau", b"".as_slice())],
+        )?;
+        let mut sink = any_sink(alloc)?;
+        let status = run(alloc, &["d"], files, &[failing], &mut sink)?;
+        assert_eq!(rt; status, Status::ReadFault, "at call {failing}");
+        assert_eq!(rt; status.code(), 66);
+        assert_eq!(rt; sink.written(), b"".as_slice());
+    }
+    Ok(())
+}
+
+#[test]
+fn an_output_that_fails_keeps_its_front(rt: HostRuntime) -> Result<(), Fail> {
+    let alloc = rt.alloc();
+    let line = b"a.luau:1:10: argument 1 of math.abs always fails\n".as_slice();
+    let mut cases = vec![in alloc;
+        (4096u64, 8u64, Some(2u64), None, 16usize),
+        (4096, 8, None, Some(1u64), 8),
+        (48, 4096, None, None, 0),
+        (48, 8, None, None, 48),
+    ]?;
+    for k in 0..49u64 {
+        cases.push((4096, 1, Some(k), None, k as usize))?;
+    }
+    for (room, per_call, failing, idle, written) in cases.iter() {
+        let mut failing_calls = Vec::new(alloc);
+        if let Some(call) = failing {
+            failing_calls.push(*call)?;
+        }
+        let mut idle_calls = Vec::new(alloc);
+        if let Some(call) = idle {
+            idle_calls.push(*call)?;
+        }
+        assert!(rt; *per_call >= 1);
+        let mut sink = memory_sink(alloc, *room, *per_call, failing_calls, idle_calls)?;
+        let files = root(alloc, &[("a.luau", b"math.abs(\"hi\")".as_slice())])?;
+        let status = run(alloc, &["d"], files, &[], &mut sink)?;
+        assert_eq!(rt; status, Status::WriteFault);
+        assert_eq!(rt; status.code(), 74);
+        assert!(rt; *written <= line.len());
+        assert_eq!(rt; sink.written(), &line[..*written]);
+    }
+    Ok(())
+}
+
+#[test]
+fn limits_are_told_with_their_numbers(rt: HostRuntime) -> Result<(), Fail> {
+    let alloc = rt.alloc();
+    let blanks = vec![in alloc; b' '; 1_048_576]?;
+    for (count, size, expected) in [
+        (64u32, 1_048_576usize, Status::Clean),
+        (65, 1_048_576, Status::TooLarge(Limit::Bytes(68_157_440))),
+        (10_000, 0, Status::Clean),
+        (10_001, 0, Status::TooLarge(Limit::Files(10_001))),
+    ] {
+        let mut list = Vec::new(alloc);
+        for i in 0..count {
+            let path = Text::of(format!(in alloc; "m{i:05}.luau")?);
+            assert!(rt; size <= blanks.len());
+            list.push((path, List::of(Vec::from_slice(alloc, &blanks[..size])?)))?;
+        }
+        let name = Text::of(String::from_str(alloc, "d")?);
+        let files = Root::new(name, List::of(list)).ok_or("not in order")?;
+        // The first read fails where it is made, which tells that none is past the limit on files.
+        let failing = if count > 10_000 {
+            [1u64].as_slice()
+        } else {
+            [].as_slice()
+        };
+        let mut sink = any_sink(alloc)?;
+        assert_eq!(rt; run(alloc, &["d"], files, failing, &mut sink)?, expected);
+        assert_eq!(rt; sink.written(), b"".as_slice());
+    }
+    Ok(())
+}
+
+#[test]
+fn a_file_past_its_limit_is_refused(rt: HostRuntime) -> Result<(), Fail> {
+    let alloc = rt.alloc();
+    let blanks = vec![in alloc; b' '; 1_048_577]?;
+    assert_eq!(rt; blanks.len(), 1_048_577);
+    let mut sink = any_sink(alloc)?;
+    let files = root(
+        alloc,
+        &[
+            ("a.luau", &blanks[..1_048_576]),
+            ("b.luau", blanks.as_slice()),
+        ],
+    )?;
+    assert_eq!(rt; run(alloc, &["d"], files, &[], &mut sink)?, Status::Refused);
+    assert_eq!(rt;
+        sink.written(),
+        b"b.luau:1:1: refused: file too large\n".as_slice()
+    );
+    Ok(())
+}
