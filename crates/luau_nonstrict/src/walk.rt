@@ -1,6 +1,7 @@
 //! The walk through a folder.
-ghost use Rattle.std.specs.Prelude.{◌≡◌, ◌+◌, ◌≤◌, ◌↔◌, IfOk, OnOk, OnErr, IsErr};
+ghost use Rattle.std.specs.Prelude.{◌≡◌, ◌+◌, ◌≤◌, ◌↔◌, All, IfOk, OnOk, OnErr, IsErr, string_bytes};
 ghost use Rattle.std.specs.List.Sorted.{IsSorted};
+ghost use Rattle.luau_nonstrict.specs.Visible.{is_hidden, IsName, IsShown, IsVisible, StaysVisible};
 
 use crate::place::{joined, place_of};
 use crate::turns::too_many_turns;
@@ -29,7 +30,8 @@ pub fn list_files<R: Files + Alloc + Clone + Drop>(
     root: &str,
     turns: u32,
 ) -> io::Result<Vec<String>>
-    ensures { IfOk result (λ paths. IsSorted ⟦<String as Ord>⟧.cmp paths.items) }
+    ensures sorted { IfOk result (λ paths. IsSorted ⟦<String as Ord>⟧.cmp paths.items) }
+    ensures visible { IfOk result (λ paths. All (λ path. IsVisible (string_bytes path)) paths.items) }
 {
     let mut walk = Walk::new(alloc, turns)?;
     while let Some(folder) = walk.pending.pop() {
@@ -44,7 +46,8 @@ pub fn list_files<R: Files + Alloc + Clone + Drop>(
 impl Walk {
     /// A walk before its first turn.
     fn new(alloc: Global, turns: u32) -> io::Result<Walk>
-        ensures { IfOk result (λ walk. walk.turns ≡ turns) }
+        ensures turns { IfOk result (λ walk. walk.turns ≡ turns) }
+        ensures visible { IfOk result StaysVisible }
     {
         let mut pending = Vec::new(alloc);
         pending.push(String::new(alloc))?;
@@ -60,6 +63,7 @@ impl Walk {
         ensures one_fewer { OnOk result (self.old.turns ≡ self.new.turns + 1) }
         ensures none_left { IsErr result ↔ (self.old.turns ≡ 0) }
         ensures stays { OnErr result (self.new.turns ≡ self.old.turns) }
+        ensures visible { StaysVisible self.old → StaysVisible self.new }
     {
         if self.turns == 0 {
             return Err(too_many_turns());
@@ -76,7 +80,10 @@ impl Walk {
         root: &str,
         folder: &str,
     ) -> io::Result<()>
-        ensures { self.new.turns ≤ self.old.turns }
+        requires shown { IsShown folder.now }
+        requires visible { StaysVisible self.old }
+        ensures turns { self.new.turns ≤ self.old.turns }
+        ensures visible { OnOk result (StaysVisible self.new) }
     {
         let place = place_of(alloc, root, folder)?;
         for entry in fs::read_dir(rt, place.as_str())? {
@@ -96,15 +103,26 @@ impl Walk {
         name: &str,
         file_type: FileType,
     ) -> io::Result<()>
-        ensures { self.new.turns ≡ self.old.turns }
+        requires shown { IsShown folder.now }
+        requires name { IsName name.now }
+        requires visible { StaysVisible self.old }
+        ensures turns { self.new.turns ≡ self.old.turns }
+        ensures visible { OnOk result (StaysVisible self.new) }
     {
         if file_type.is_file() {
             self.found.push(joined(alloc, folder, name)?)?;
-        } else if file_type.is_dir() && !name.starts_with('.') {
+        } else if file_type.is_dir() && !is_hidden(name) {
             self.pending.push(joined(alloc, folder, name)?)?;
         }
         Ok(())
     }
+}
+
+/// Whether a name begins with `.`.
+fn is_hidden(name: &str) -> bool
+    ensures { result ≡ is_hidden name.now }
+{
+    name.starts_with('.')
 }
 
 #[cfg(test)]
