@@ -6,6 +6,7 @@
 FOLDER ?= examples/first
 PREFIX ?= /usr/local
 PROGRAM := bin/luau-nonstrict
+CRATE := crates/luau_nonstrict
 
 .PHONY: run build test install
 
@@ -15,8 +16,8 @@ run: build
 
 # The toolchain builds a program only to run it, so it is run once on a folder without modules.
 build:
-	@rt run luau_nonstrict -- "$(CURDIR)/.ci"
-	@install -D -m 755 crates/luau_nonstrict/out/luau_nonstrict $(PROGRAM)
+	@cd $(CRATE) && rt run -- "$(CURDIR)/.ci"
+	@install -D -m 755 $(CRATE)/out/luau_nonstrict $(PROGRAM)
 
 test:
 	@.ci/run
