@@ -1,0 +1,1 @@
+math.abs("hi")

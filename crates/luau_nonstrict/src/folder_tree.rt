@@ -1,0 +1,118 @@
+//! The folders of the file system.
+ghost use Rattle.std.specs.Prelude.{◌≡◌, ◌≢◌, ◌≤◌, ◌↔◌};
+ghost use Rattle.std.specs.IoError.{error_kind};
+ghost use Rattle.outside.specs.Cause.{Rose};
+
+use crate::faults::FaultCount;
+use crate::front::front;
+use crate::place::place_of;
+use crate::turns::TURNS;
+use crate::walk::list_files;
+use outside::{Tree, TreeError};
+use std::alloc::Global;
+use std::io::ErrorKind;
+use std::rt::Files;
+use std::{fs, io};
+
+/// The folders of the file system as roots of files. A root's name is the folder's path, and the root without a name
+/// is the folder in which the program runs, whose files may be named by any path and through links. In every other
+/// root, as in every listing, a link is none of the files. It tells no contents.
+#[derive(Drop)]
+pub struct FolderTree<R> {
+    rt: R,
+    faults: FaultCount,
+}
+
+impl<R> FolderTree<R> {
+    /// The folders that this runtime reaches, with no fault so far.
+    pub fn new(rt: R) -> FolderTree<R> {
+        FolderTree {
+            rt,
+            faults: FaultCount::new(),
+        }
+    }
+
+    /// What an error of the system means, with the fault counted. Want of memory is none.
+    fn fault(&mut self, error: io::Error) -> TreeError
+        ensures never_absent { result ≢ TreeError.Absent }
+        ensures failed { result ≡ TreeError.Failed → Rose self.old.faults.count self.new.faults.count }
+        ensures no_memory { (result ≡ TreeError.NoMemory) ↔ (error_kind error ≡ ErrorKind.OutOfMemory) }
+        ensures quiet { result ≡ TreeError.NoMemory → self.new.faults.count ≡ self.old.faults.count }
+        ensures never_falls { self.old.faults.count ≤ self.new.faults.count }
+    {
+        if error.kind() == ErrorKind::OutOfMemory {
+            TreeError::NoMemory
+        } else {
+            self.faults.rise();
+            TreeError::Failed
+        }
+    }
+}
+
+impl<R: Files + Alloc + Clone + Drop> Tree for FolderTree<R> {
+    ghost use Rattle.std.specs.Prelude.{None};
+
+    ghost contents = { λ _. None };
+
+    ghost faults = { λ tree. tree.faults.count };
+
+    ghost ordered = { λ _. tt };
+
+    fn list(&mut self, alloc: Global, root: &str) -> Result<Vec<String>, TreeError> {
+        match list_files(&self.rt, alloc, root, TURNS) {
+            Ok(paths) => Ok(paths),
+            Err(error) => Err(self.fault(error)),
+        }
+    }
+
+    fn read(
+        &mut self,
+        alloc: Global,
+        root: &str,
+        path: &str,
+        at_most: u64,
+    ) -> Result<Vec<u8>, TreeError> {
+        match read_front(&self.rt, alloc, root, path, at_most) {
+            Ok(Some(bytes)) => Ok(bytes),
+            Ok(None) => {
+                self.faults.rise();
+                Err(TreeError::Absent)
+            }
+            Err(error) => Err(self.fault(error)),
+        }
+    }
+}
+
+/// The first `at_most` bytes of the regular file at a path of a root, none where there is no such file.
+fn read_front<R: Files>(
+    rt: &R,
+    alloc: Global,
+    root: &str,
+    path: &str,
+    at_most: u64,
+) -> io::Result<Option<Vec<u8>>> {
+    let place = place_of(alloc, root, path)?;
+    if !is_file(rt, place.as_str(), root.is_empty())? {
+        return Ok(None);
+    }
+    let mut file = fs::open(rt, place.as_str())?;
+    Ok(Some(front(alloc, &mut file, at_most)?))
+}
+
+/// Whether a regular file lies there. A link counts as what it leads to only where links are followed.
+fn is_file<R: Files>(rt: &R, place: &str, follows_links: bool) -> io::Result<bool> {
+    let found = if follows_links {
+        fs::metadata(rt, place)
+    } else {
+        fs::symlink_metadata(rt, place)
+    };
+    match found {
+        Ok(metadata) => Ok(metadata.is_file()),
+        Err(e) if e.kind() == ErrorKind::NotFound => Ok(false),
+        Err(e) if e.kind() == ErrorKind::NotADirectory => Ok(false),
+        Err(e) => Err(e),
+    }
+}
+
+#[cfg(test)]
+mod tests;

@@ -1,0 +1,70 @@
+//! `luau-nonstrict FOLDER`: reports the code of a folder of Luau modules that is certain to fail once it is reached.
+#![tactic(auto)]
+
+mod faults;
+mod folder_tree;
+mod front;
+mod place;
+mod stdout_sink;
+mod turns;
+mod walk;
+
+ghost use Rattle.std.specs.Prelude.{◌≡◌, option_copied};
+ghost use Rattle.std.specs.Process.{exit_status};
+ghost use Rattle.luau_nonstrict.specs.Word.{word};
+
+use folder_tree::FolderTree;
+use nonstrict_cli::{Status, nonstrict};
+use std::io::ErrorKind;
+use std::process::ExitCode;
+use std::rt::{Env, Files};
+use std::{env, io};
+use stdout_sink::StdoutSink;
+
+fn main(rt: HostRuntime) -> ExitCode {
+    let status = run(&rt);
+    end(&rt, status.code())
+}
+
+/// Runs the command that the program's words are. Words that aren't UTF-8 are no command.
+fn run<R: Env + Files + Print + AllocGlobal>(rt: &R) -> Status {
+    match words(rt) {
+        Ok(words) => {
+            let mut tree = FolderTree::new(rt);
+            let mut sink = StdoutSink::new(rt);
+            nonstrict(rt.alloc(), words.as_slice(), &mut tree, &mut sink)
+        }
+        Err(e) if e.kind() == ErrorKind::OutOfMemory => Status::NoMemory,
+        Err(_) => Status::Usage,
+    }
+}
+
+/// The words after the program's name.
+fn words<R: Env + AllocGlobal>(rt: &R) -> io::Result<Vec<String>> {
+    Ok(env::args(rt)?.skip(1).collect(rt.alloc())?)
+}
+
+/// Tells standard error the word for a status, where it has one, and gives the exit status, which is the same even
+/// where standard error can't be told.
+fn end(rt: &impl Eprint, code: u8) -> ExitCode
+    ensures { exit_status result ≡ code }
+{
+    if let Some(word) = word_of(code) {
+        let _ = eprintln!(rt; "luau-nonstrict: {word}");
+    }
+    ExitCode::from(code)
+}
+
+/// The word for a status, where it has one.
+fn word_of(code: u8) -> Option<&'static str>
+    ensures { option_copied result ≡ word code }
+{
+    match code {
+        64 => Some("usage"),
+        65 => Some("too large"),
+        66 => Some("read fault"),
+        71 => Some("no memory"),
+        74 => Some("write fault"),
+        _ => None,
+    }
+}

@@ -1,0 +1,59 @@
+//! The standard output.
+ghost use Rattle.std.specs.Prelude.{◌≤◌, IfOk, length};
+
+use crate::faults::FaultCount;
+use outside::{Sink, SinkFailed};
+use std::io;
+use std::io::ErrorKind;
+
+/// How often one write may be interrupted.
+const TRIES: u32 = 4096;
+
+/// The standard output as a sink. It tells no bytes.
+#[derive(Drop)]
+pub struct StdoutSink<P> {
+    out: P,
+    faults: FaultCount,
+}
+
+impl<P> StdoutSink<P> {
+    /// The standard output of this runtime, with no fault so far.
+    pub fn new(out: P) -> StdoutSink<P> {
+        StdoutSink {
+            out,
+            faults: FaultCount::new(),
+        }
+    }
+}
+
+impl<P: Print> Sink for StdoutSink<P> {
+    ghost use Rattle.std.specs.Prelude.{None};
+
+    ghost written = { λ _. None };
+
+    ghost faults = { λ sink. sink.faults.count };
+
+    fn write(&mut self, bytes: &[u8]) -> Result<usize, SinkFailed> {
+        let written = write_some(&self.out, bytes);
+        if !matches!(written, Ok(1..)) {
+            self.faults.rise();
+        }
+        written.map_err(|_| SinkFailed)
+    }
+}
+
+/// Writes some of the bytes and says how many. An interrupted write is tried again.
+fn write_some<P: Print>(out: &P, bytes: &[u8]) -> io::Result<usize>
+    ensures { IfOk result (λ n. n ≤ length bytes.now) }
+{
+    for _ in 0..TRIES {
+        match out.write_some(bytes) {
+            Err(e) if e.kind() == ErrorKind::Interrupted => {}
+            answer => return answer,
+        }
+    }
+    Err(io::Error::from(ErrorKind::Interrupted))
+}
+
+#[cfg(test)]
+mod tests;
