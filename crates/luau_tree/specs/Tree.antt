@@ -13,7 +13,7 @@ mutual
     more_stats : Stat → Block → Block
 
   pub data Stat : Type 0 where
-    stat : (span : Span) (kind : StatKind) → Stat
+    the_stat : (span : Span) (kind : StatKind) → Stat
 
   pub data StatKind : Type 0 where
     Assign : (targets values : Exprs) → StatKind
@@ -43,7 +43,7 @@ mutual
     a_block : Block → MaybeBlock
 
   pub data Expr : Type 0 where
-    expr : (id : ℕ) (span : Span) (kind : ExprKind) → Expr
+    the_expr : (id : ℕ) (span : Span) (kind : ExprKind) → Expr
 
   pub data Exprs : Type 0 where
     no_exprs : Exprs
@@ -88,7 +88,7 @@ mutual
     more_items : Item → Items → Items
 
   pub data Body : Type 0 where
-    body : (id : ℕ) (has_self : Bool) (generics : Gens) (params : Binds) (vararg : Varargs) (result : MaybeType) (block : Block) (span : Span) → Body
+    the_body : (id : ℕ) (has_self : Bool) (generics : Gens) (params : Binds) (vararg : Varargs) (result : MaybeType) (block : Block) (span : Span) → Body
 
   -- whether a body takes more arguments than its parameters, and the type that is written for them
   pub data Varargs : Type 0 where
@@ -96,21 +96,21 @@ mutual
     varargs : MaybeType → Varargs
 
   pub data Bind : Type 0 where
-    bind : (name : List ℕ) (span : Span) (typ : MaybeType) → Bind
+    the_bind : (name : List ℕ) (span : Span) (typ : MaybeType) → Bind
 
   pub data Binds : Type 0 where
     no_binds : Binds
     more_binds : Bind → Binds → Binds
 
   pub data Gen : Type 0 where
-    gen : (name : List ℕ) (span : Span) (pack : Bool) (default : MaybeType) → Gen
+    the_gen : (name : List ℕ) (span : Span) (pack : Bool) (default : MaybeType) → Gen
 
   pub data Gens : Type 0 where
     no_gens : Gens
     more_gens : Gen → Gens → Gens
 
   pub data TypeSyntax : Type 0 where
-    typ : (span : Span) (kind : TypeKind) → TypeSyntax
+    the_type : (span : Span) (kind : TypeKind) → TypeSyntax
 
   pub data TypeSyntaxes : Type 0 where
     no_types : TypeSyntaxes
@@ -137,7 +137,7 @@ mutual
     GenericPack : (name : List ℕ) → TypeKind
 
   pub data Prop : Type 0 where
-    prop : (access : Access) (key : PropKey) (typ : TypeSyntax) → Prop
+    the_prop : (access : Access) (key : PropKey) (typ : TypeSyntax) → Prop
 
   pub data Props : Type 0 where
     no_props : Props

@@ -142,31 +142,31 @@ abbrev arm : Arm-F ExprKind Item PropKey StatKind TypeKind (Expr × Block) Bind 
 arm x = (x.cond, x.block)
 
 abbrev bind_of : Bind-F ExprKind Item PropKey StatKind TypeKind (Expr × Block) Bind Block Body (Expr × Expr) Expr Gen Prop Stat TypeSyntax → Bind
-bind_of x = plain.bind x.name x.span (maybe_type x.typ)
+bind_of x = plain.the_bind x.name x.span (maybe_type x.typ)
 
 abbrev block_of : Block-F ExprKind Item PropKey StatKind TypeKind (Expr × Block) Bind Block Body (Expr × Expr) Expr Gen Prop Stat TypeSyntax → Block
 block_of x = stats x.stats
 
 abbrev body_of : Body-F ExprKind Item PropKey StatKind TypeKind (Expr × Block) Bind Block Body (Expr × Expr) Expr Gen Prop Stat TypeSyntax → Body
-body_of x = plain.body x.id.0 x.has_self (gens x.generics) (binds x.params) (varargs_of x.vararg) (maybe_type x.result) x.block x.span
+body_of x = plain.the_body x.id.0 x.has_self (gens x.generics) (binds x.params) (varargs_of x.vararg) (maybe_type x.result) x.block x.span
 
 abbrev choice : Choice-F ExprKind Item PropKey StatKind TypeKind (Expr × Block) Bind Block Body (Expr × Expr) Expr Gen Prop Stat TypeSyntax → Expr × Expr
 choice x = (x.cond, x.value)
 
 abbrev expr_of : Expr-F ExprKind Item PropKey StatKind TypeKind (Expr × Block) Bind Block Body (Expr × Expr) Expr Gen Prop Stat TypeSyntax → Expr
-expr_of x = plain.expr x.id.0 x.span x.kind
+expr_of x = plain.the_expr x.id.0 x.span x.kind
 
 abbrev gen_of : Gen-F ExprKind Item PropKey StatKind TypeKind (Expr × Block) Bind Block Body (Expr × Expr) Expr Gen Prop Stat TypeSyntax → Gen
-gen_of x = plain.gen x.name x.span x.pack (maybe_type x.default)
+gen_of x = plain.the_gen x.name x.span x.pack (maybe_type x.default)
 
 abbrev prop_of : Prop-F ExprKind Item PropKey StatKind TypeKind (Expr × Block) Bind Block Body (Expr × Expr) Expr Gen Prop Stat TypeSyntax → Prop
-prop_of x = plain.prop x.access x.key x.typ
+prop_of x = plain.the_prop x.access x.key x.typ
 
 abbrev stat_of : Stat-F ExprKind Item PropKey StatKind TypeKind (Expr × Block) Bind Block Body (Expr × Expr) Expr Gen Prop Stat TypeSyntax → Stat
-stat_of x = plain.stat x.span x.kind
+stat_of x = plain.the_stat x.span x.kind
 
 abbrev type_of : TypeSyntax-F ExprKind Item PropKey StatKind TypeKind (Expr × Block) Bind Block Body (Expr × Expr) Expr Gen Prop Stat TypeSyntax → TypeSyntax
-type_of x = plain.typ x.span x.kind
+type_of x = plain.the_type x.span x.kind
 
 -- the plain tree of each part of a tree
 abbrev pub view_block : code.Block.Block → Block
