@@ -1,0 +1,137 @@
+-- What operators do with values. An operand of a failing kind fails; otherwise what the rules leave open is asked for.
+use Rattle.std.specs.Prelude.{ℕ, Bool, true, false, not, ◌&&◌, ◌==◌, if◌then◌else◌, List, ◌++◌, is_some, codes}
+use Rattle.std.specs.Bool.{beq}
+use Rattle.std.specs.Str.{bytes_eq}
+use Rattle.luau_values.specs.Value.{Value, Nil, Truth, Num, Str, Tab, Lit, Builtin, Other, is_nil}
+use Rattle.luau_values.specs.Heap.{field_of}
+use Rattle.luau_tree.specs.declared.names.UnOp.{UnOp}
+use Rattle.luau_tree.specs.declared.names.UnOp.TheVariants.{Minus, Not, Length}
+use Rattle.luau_tree.specs.declared.names.BinOp.{BinOp}
+use Rattle.luau_tree.specs.declared.names.BinOp.TheVariants.{Less, Greater, LessEqual, GreaterEqual, NotEqual, Equal, Concat}
+use Rattle.luau_run.specs.Program.{Program, declaration}
+use Rattle.luau_run.specs.Machine.{Part, ◌>>=◌, give, fail, look, ask, write_field}
+use Rattle.luau_run.specs.Answers.{a_value, value_or_fail, a_number, number_or_fail, a_string, a_truth, truth_or_fail, yes_or_fail}
+
+-- whether a value counts as true in conditions: nil and false alone don't
+abbrev pub is_true : Value → Bool
+is_true Nil = false
+is_true (Truth truth) = truth
+is_true _ = true
+
+-- how a value stands to arithmetic
+pub data Sort : Type 0 where
+  IsNumber : Sort
+  IsString : Sort
+  IsOther : Sort
+  -- nil, a boolean, a function or a table
+  IsWrong : Sort
+
+abbrev pub sort : Value → Sort
+sort (Num text) = IsNumber
+sort (Str bytes) = IsString
+sort (Other number) = IsOther
+sort _ = IsWrong
+
+-- any value or a failure, as an operation on an `Other` gives
+unfoldable pub anything : Program → Part Value
+anything program = do
+  store ← look
+  ask (value_or_fail program store)
+
+-- arithmetic: two numbers give a number; where a string is among the two it may fail
+abbrev pub arithmetic_of : Program → Sort → Sort → Part Value
+arithmetic_of program IsOther right = anything program
+arithmetic_of program left IsOther = anything program
+arithmetic_of program IsNumber IsNumber = ask (number_or_fail false)
+arithmetic_of program IsNumber IsString = ask (number_or_fail true)
+arithmetic_of program IsString IsNumber = ask (number_or_fail true)
+arithmetic_of program IsString IsString = ask (number_or_fail true)
+arithmetic_of program _ _ = fail
+
+-- `..`
+abbrev pub joined : Program → Sort → Sort → Part Value
+joined program IsOther right = anything program
+joined program left IsOther = anything program
+joined program IsWrong right = fail
+joined program left IsWrong = fail
+joined program left right = ask a_string
+
+abbrev pub says : Bool → Value
+says truth = Truth truth
+
+-- an order of two numbers or of two strings; with an `Other` it may fail
+abbrev pub ordered : Sort → Sort → Part Value
+ordered IsOther right = ask truth_or_fail >>= (λ truth. give (says truth))
+ordered left IsOther = ask truth_or_fail >>= (λ truth. give (says truth))
+ordered IsNumber IsNumber = ask a_truth >>= (λ truth. give (says truth))
+ordered IsString IsString = ask a_truth >>= (λ truth. give (says truth))
+ordered _ _ = fail
+
+-- whether two values are equal: of two numbers, of two that are `Other`, and of two closures of one literal the tape says it
+abbrev pub equal : Value → Value → Part Bool
+equal (Num a) (Num b) = ask a_truth
+equal (Other a) (Other b) = ask a_truth
+equal (Lit home function cells) (Lit h f c) = if (home == h) && (function == f) then ask a_truth else give false
+equal Nil Nil = give true
+equal (Truth a) (Truth b) = give (beq a b)
+equal (Str a) (Str b) = give (bytes_eq a b)
+equal (Tab a) (Tab b) = give (a == b)
+equal (Builtin a) (Builtin b) = give (bytes_eq a b)
+equal _ _ = give false
+
+-- a binary operation on two values; `and` and `or` are no such operations
+abbrev pub binary : Program → BinOp → Value → Value → Part Value
+binary program Concat left right = joined program (sort left) (sort right)
+binary program Equal left right = equal left right >>= (λ same. give (says same))
+binary program NotEqual left right = equal left right >>= (λ same. give (says (not same)))
+binary program Less left right = ordered (sort left) (sort right)
+binary program Greater left right = ordered (sort left) (sort right)
+binary program LessEqual left right = ordered (sort left) (sort right)
+binary program GreaterEqual left right = ordered (sort left) (sort right)
+binary program _ left right = arithmetic_of program (sort left) (sort right)
+
+abbrev pub negated : Program → Sort → Part Value
+negated program IsNumber = ask (number_or_fail false)
+negated program IsString = ask (number_or_fail true)
+negated program IsOther = anything program
+negated program IsWrong = fail
+
+abbrev pub length_of : Program → Value → Part Value
+length_of program (Str bytes) = ask a_number
+length_of program (Tab address) = ask a_number
+length_of program (Other number) = anything program
+length_of program _ = fail
+
+abbrev pub unary : Program → UnOp → Value → Part Value
+unary program Minus value = negated program (sort value)
+unary program Not value = give (says (not (is_true value)))
+unary program Length value = length_of program value
+
+-- the builtin `string.NAME` where it is declared, and else nil
+abbrev pub string_field : Program → List ℕ → Value
+string_field program name =
+    if is_some (declaration program.builtins (codes "string." ++ name)) then Builtin (codes "string." ++ name) else Nil
+
+-- the field of a value
+abbrev pub field : Program → List ℕ → Value → Part Value
+field program name (Tab address) = look >>= (λ store. give (field_of store.heap address name))
+field program name (Str bytes) = give (string_field program name)
+field program name (Other number) = anything program
+field program name _ = fail
+
+abbrev pub or_any : Program → Value → Part Value
+or_any program value = if is_nil value then (look >>= (λ store. ask (a_value program store))) else give value
+
+-- what stands in a value under a key; only a string is a name
+abbrev pub element : Program → (key value : Value) → Part Value
+element program (Str name) value = field program name value
+element program key (Tab address) = look >>= (λ store. ask (a_value program store))
+element program key (Str bytes) = look >>= (λ store. ask (a_value program store))
+element program key (Other number) = anything program
+element program key _ = fail
+
+-- a write to a field
+abbrev pub set_field : List ℕ → (written value : Value) → Part (Unit {0})
+set_field name written (Tab address) = write_field address name written
+set_field name written (Other number) = ask yes_or_fail
+set_field name written _ = fail
