@@ -7,7 +7,7 @@ use Rattle.luau_values.specs.Heap.{is_frozen}
 use Rattle.luau_tree.specs.Tree.{Block, no_stats, more_stats, Body, the_body, the_bind, Binds, no_binds, more_binds, Varargs, no_varargs, varargs}
 use Rattle.luau_tree.specs.declared.names.Place.TheVariants.{Param}
 use Rattle.luau_run.specs.Program.{Signature, declaration, takes, may_give, ReadModule, Program}
-use Rattle.luau_run.specs.Machine.{Reach, Leave, Act, Write, Freeze, Make, Calls, Catches, Closure, Part, ◌>>=◌, ◌>>◌, give, fail, spend, step, log, look, change, ask, catch, make_table, write_field, freeze_table, new_cell, bind_local, begin}
+use Rattle.luau_run.specs.Machine.{Reach, Leave, Act, Write, Freeze, Make, Calls, Catches, Closure, Part, ◌>>=◌, ◌>>◌, give, fail, spend, step, log, look, change, ask, catch, make_table, write_field, freeze_table, new_cell, bind_local, activate}
 use Rattle.luau_run.specs.Answers.{is_closure, yes_or_fail, other_kind, Aim, ForResults, Freedom, Free, Quiet, Move, Acts, Ends, a_move}
 use Rattle.luau_run.specs.Layer.{Frame, Ending, Falls, Returns, Layer, first}
 
@@ -101,13 +101,6 @@ abbrev pub returned : Ending → List Value
 returned (Returns values) = values
 returned _ = []
 
--- a body's statements, and its end; no `break` or `continue` leads out of a body
-abbrev pub run_block : Layer → Frame → Block → Part Ending
-run_block layer frame code = do
-  ending ← block layer frame code
-  log (Leave frame.activation)
-  give ending
-
 abbrev pub after_first : List Value → List Value
 after_first [] = []
 after_first (v ∷ values) = values
@@ -140,16 +133,20 @@ further_args no_varargs params args = []
 further_args (varargs t) no_binds args = args
 further_args (varargs t) (more_binds b rest) args = further_args (varargs t) rest (after_first args)
 
--- a new activation of a closure's body
-abbrev pub enter : Layer → Option ReadModule → List (ℕ × ℕ) → ℕ → Body → List Value → Part (List Value)
-enter layer None cells at code args = spend
-enter layer (Some reading) cells at (the_body id has_self generics params vararg result code span) args = do
-  activation ← begin
+-- a closure's body in an activation
+abbrev pub run_body : Layer → ReadModule → List (ℕ × ℕ) → ℕ → Body → List Value → ℕ → Part Ending
+run_body layer reading cells at (the_body id has_self generics params vararg result code span) args activation = do
   let frame : Frame = record { activation = activation; module_at = at; reading = reading; further = further_args vararg params args }
   bind_captured activation cells
   bind_params frame params args
   reach_params frame id 0 params args
-  ending ← run_block layer frame code
+  block layer frame code
+
+-- a call of a closure; no `break` or `continue` leads out of a body
+abbrev pub enter : Layer → Option ReadModule → List (ℕ × ℕ) → ℕ → Body → List Value → Part (List Value)
+enter layer None cells at code args = spend
+enter layer (Some reading) cells at code args = do
+  ending ← activate (run_body layer reading cells at code args)
   give (returned ending)
 
 abbrev pub call_closure : Program → Layer → List (ℕ × ℕ) → Option Closure → List Value → Part (List Value)
@@ -173,12 +170,14 @@ loaded_value (l ∷ loaded) at = if l.0 == at then Some l.1 else loaded_value lo
 abbrev pub keep_loaded : ℕ → Value → List (ℕ × Value) → List (ℕ × Value)
 keep_loaded at value loaded = loaded ++ (at, value) ∷ []
 
+-- the frame of a module's own body
+abbrev pub module_frame : ℕ → ReadModule → ℕ → Frame
+module_frame at reading activation = record { activation = activation; module_at = at; reading = reading; further = [] }
+
 -- a new activation of a module's own body
 abbrev pub enter_module : Layer → ℕ → Option ReadModule → Part Ending
 enter_module layer at None = spend
-enter_module layer at (Some reading) = do
-  activation ← begin
-  run_block layer (record { activation = activation; module_at = at; reading = reading; further = [] }) reading.block
+enter_module layer at (Some reading) = activate (λ activation. block layer (module_frame at reading activation) reading.block)
 
 abbrev pub require_from : Program → Layer → ℕ → Option Value → Part (List Value)
 require_from program layer at (Some value) = give (value ∷ [])

@@ -170,9 +170,17 @@ abbrev pub bind_local : (activation local cell : ℕ) → Part (Unit {0})
 bind_local activation local cell =
     change (λ s. record s { bindings = record { activation = activation; local = local; cell = cell } ∷ s.bindings })
 
--- an activation begins; it gives its number
+-- the next number for an activation
 abbrev pub begin : Part ℕ
 begin = do
   store ← look
   change (λ s. record s { begun = s.begun + 1 })
   give store.begun
+
+-- an activation: it gets a number of its own, and when its body has ended, that is logged
+unfoldable pub activate : {A : Type 0} → (ℕ → Part A) → Part A
+activate body = do
+  number ← begin
+  given ← body number
+  log (Leave number)
+  give given
