@@ -1,0 +1,3 @@
+pub mod AfterFacts
+pub mod Good
+pub mod GoodActivation

@@ -9,4 +9,5 @@ pub mod Loops
 pub mod Statements
 pub mod Run
 pub mod Certain
+pub mod After
 pub mod Examples

@@ -45,11 +45,10 @@ start program steps tape = record {
   trace = [];
 }
 
--- the run of a module of a program, with a number of steps and a tape of answers: each lower layer takes a step or an
--- answer first, so this depth is enough
+-- the run of a module of a program, with a number of steps and a tape of answers; no deeper layer would give another
 abbrev pub run : Program → (entry steps : ℕ) → List Answer → Ran Ending
 run program entry steps tape =
-    enter_module (layer_of program (steps + length tape)) entry (slice_get program.modules entry) (start program steps tape)
+    enter_module (layer_of program (suc (steps + length tape))) entry (slice_get program.modules entry) (start program steps tape)
 
 abbrev pub end_of : {A : Type 0} → Ran A → State
 end_of (Gave given state) = state
