@@ -133,20 +133,27 @@ further_args no_varargs params args = []
 further_args (varargs t) no_binds args = args
 further_args (varargs t) (more_binds b rest) args = further_args (varargs t) rest (after_first args)
 
--- a closure's body in an activation
-abbrev pub run_body : Layer → ReadModule → List (ℕ × ℕ) → ℕ → Body → List Value → ℕ → Part Ending
-run_body layer reading cells at (the_body id has_self generics params vararg result code span) args activation = do
-  let frame : Frame = record { activation = activation; module_at = at; reading = reading; further = further_args vararg params args }
-  bind_captured activation cells
+-- the frame of an activation of a body of a module, with further arguments
+abbrev pub frame_of : (module_at : ℕ) → ReadModule → (further : List Value) → (activation : ℕ) → Frame
+frame_of at reading further activation = record { activation = activation; module_at = at; reading = reading; further = further }
+
+-- what a body does in a frame of its own: the captured cells, the parameters, the places of these, the statements
+abbrev pub run_in : Layer → Frame → List (ℕ × ℕ) → Body → List Value → Part Ending
+run_in layer frame cells (the_body id has_self generics params vararg result code span) args = do
+  bind_captured frame.activation cells
   bind_params frame params args
   reach_params frame id 0 params args
   block layer frame code
+
+-- the arguments that a body keeps for `...`
+abbrev pub kept_args : Body → List Value → List Value
+kept_args (the_body id has_self generics params vararg result code span) args = further_args vararg params args
 
 -- a call of a closure; no `break` or `continue` leads out of a body
 abbrev pub enter : Layer → Option ReadModule → List (ℕ × ℕ) → ℕ → Body → List Value → Part (List Value)
 enter layer None cells at code args = spend
 enter layer (Some reading) cells at code args = do
-  ending ← activate (run_body layer reading cells at code args)
+  ending ← activate (λ activation. run_in layer (frame_of at reading (kept_args code args) activation) cells code args)
   give (returned ending)
 
 abbrev pub call_closure : Program → Layer → List (ℕ × ℕ) → Option Closure → List Value → Part (List Value)
@@ -170,14 +177,10 @@ loaded_value (l ∷ loaded) at = if l.0 == at then Some l.1 else loaded_value lo
 abbrev pub keep_loaded : ℕ → Value → List (ℕ × Value) → List (ℕ × Value)
 keep_loaded at value loaded = loaded ++ (at, value) ∷ []
 
--- the frame of a module's own body
-abbrev pub module_frame : ℕ → ReadModule → ℕ → Frame
-module_frame at reading activation = record { activation = activation; module_at = at; reading = reading; further = [] }
-
 -- a new activation of a module's own body
 abbrev pub enter_module : Layer → ℕ → Option ReadModule → Part Ending
 enter_module layer at None = spend
-enter_module layer at (Some reading) = activate (λ activation. block layer (module_frame at reading activation) reading.block)
+enter_module layer at (Some reading) = activate (λ activation. block layer (frame_of at reading [] activation) reading.block)
 
 abbrev pub require_from : Program → Layer → ℕ → Option Value → Part (List Value)
 require_from program layer at (Some value) = give (value ∷ [])
