@@ -4,3 +4,7 @@ pub mod GoodActivation
 pub mod GoodOperators
 pub mod GoodLayer
 pub mod GoodCalls
+pub mod GoodExpressions
+pub mod GoodLoops
+pub mod GoodStatements
+pub mod GoodLayers

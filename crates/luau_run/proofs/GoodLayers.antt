@@ -1,0 +1,69 @@
+-- Each layer beside a deeper one, and runs beside runs with more steps and answers.
+use Rattle.std.proofs.Common.{◌≡◌, ℕ, zero, suc, pred, ◌+◌, ◌<◌, ◌≤◌, List, [], ◌∷◌, ◌++◌, length, Option, Some, None, refl, sym, ◌∙◌, ap, subst, arith, slice_get, length-append, suc-add}
+use Rattle.luau_values.specs.Later.{Later}
+use Rattle.luau_values.specs.Heap.{start_heap}
+use Rattle.luau_run.specs.Program.{Program, paths}
+use Rattle.luau_run.specs.Machine.{Event, Answer, State, Ran, Part, spend}
+use Rattle.luau_run.specs.Layer.{Frame, Ending, Layer}
+use Rattle.luau_run.specs.Calls.{enter_module}
+use Rattle.luau_run.specs.Run.{next, lowest, layer_of, start, run, end_of, trace}
+use Rattle.luau_run.specs.After.{LeavesLast, AllInside, HasBegun, After, with_more, Begins, GoesOn}
+use Rattle.luau_run.proofs.AfterFacts.{after_refl}
+use Rattle.luau_run.proofs.Good.{left, Good, good_spend, good_lowest}
+use Rattle.luau_run.proofs.GoodLayer.{GoodLayer}
+use Rattle.luau_run.proofs.GoodCalls.{acts_next, call_next, require_next, good_module}
+use Rattle.luau_run.proofs.GoodExpressions.{values_next}
+use Rattle.luau_run.proofs.GoodLoops.{turns_next}
+use Rattle.luau_run.proofs.GoodStatements.{stat_next}
+
+-- the layers above good layers are good
+good_next : (program : Program) (depth : ℕ) (l m : Layer) → GoodLayer depth l m → GoodLayer (suc depth) (next program l) (next program m)
+good_next program depth l m h = record {
+  values = values_next depth l m h program;
+  stat = stat_next depth l m h program;
+  turns = turns_next depth l m h program;
+  call = call_next depth l m h program;
+  require = require_next depth l m h program;
+  acts = acts_next depth l m h program;
+}
+
+-- the lowest layer is good beside any that is good beside itself
+good_above_lowest : (depth : ℕ) (m : Layer) → GoodLayer depth m m → GoodLayer zero lowest m
+good_above_lowest depth m h = record {
+  values = λ frame e. good_lowest (Some frame.activation) _ (h.values frame e).after;
+  stat = λ frame s. good_lowest (Some frame.activation) _ (h.stat frame s).after;
+  turns = λ frame loop. good_lowest (Some frame.activation) _ (h.turns frame loop).after;
+  call = λ callee args. good_lowest None _ (h.call callee args).after;
+  require = λ module_at. good_lowest None _ (h.require module_at).after;
+  acts = λ freedom aim. good_lowest None _ (h.acts freedom aim).after;
+}
+
+lowest_itself : GoodLayer zero lowest lowest
+lowest_itself = record {
+  values = λ frame e. good_spend zero (Some frame.activation) _;
+  stat = λ frame s. good_spend zero (Some frame.activation) _;
+  turns = λ frame loop. good_spend zero (Some frame.activation) _;
+  call = λ callee args. good_spend zero None _;
+  require = λ module_at. good_spend zero None _;
+  acts = λ freedom aim. good_spend zero None _;
+}
+
+-- a layer beside itself
+itself : (program : Program) (depth : ℕ) → GoodLayer depth (layer_of program depth) (layer_of program depth)
+itself program zero = lowest_itself
+itself program (suc depth) = good_next program depth (layer_of program depth) (layer_of program depth) (itself program depth)
+
+-- a layer beside a deeper one
+pub deeper : (program : Program) (depth more : ℕ) → GoodLayer depth (layer_of program depth) (layer_of program (depth + more))
+deeper program zero more = good_above_lowest (zero + more) (layer_of program (zero + more)) (itself program (zero + more))
+deeper program (suc depth) more = subst (λ (n : ℕ). GoodLayer (suc depth) (layer_of program (suc depth)) (layer_of program n)) (sym (suc-add depth more))
+    (good_next program depth (layer_of program depth) (layer_of program (depth + more)) (deeper program depth more))
+
+-- a module's run at a depth
+at_depth : Program → ℕ → ℕ → Part Ending
+at_depth program entry depth = enter_module (layer_of program depth) entry (slice_get program.modules entry)
+
+good_run : (program : Program) (entry depth more : ℕ) → Good depth None (at_depth program entry depth) (at_depth program entry (depth + more))
+unfolding at_depth
+good_run program entry depth more =
+    good_module depth (layer_of program depth) (layer_of program (depth + more)) (deeper program depth more) entry (slice_get program.modules entry)
