@@ -8,3 +8,4 @@ pub mod GoodExpressions
 pub mod GoodLoops
 pub mod GoodStatements
 pub mod GoodLayers
+pub mod CallFacts
