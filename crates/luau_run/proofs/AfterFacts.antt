@@ -1,7 +1,7 @@
 -- Facts on states that follow one another.
-use Rattle.std.proofs.Common.{◌≡◌, ◌≢◌, ℕ, suc, ◌+◌, ◌<◌, ◌≤◌, List, [], ◌∷◌, ◌++◌, length, Option, Some, None, ◌⊎◌, inl, inr, refl, sym, ◌∙◌, ap, subst, arith, append_assoc, append-nil}
+use Rattle.std.proofs.Common.{◌≢◌, ℕ, ◌<◌, ◌≤◌, List, [], ◌∷◌, ◌++◌, Option, Some, None, inl, inr, sym, ◌∙◌, ap, arith, append_assoc, append-nil}
 use Rattle.luau_values.proofs.HeapFacts.{later_refl, later_trans}
-use Rattle.luau_run.specs.Machine.{Event, Reach, Leave, Answer, State}
+use Rattle.luau_run.specs.Machine.{Event, Reach, Leave, State}
 use Rattle.luau_run.specs.After.{activation_of, NoneOf, LeavesLast, IsInside, AllInside, HasBegun, After}
 
 wider_one : (runs : Option ℕ) (low mid high : ℕ) (e : Event) → mid ≤ high → IsInside runs low mid e → IsInside runs low high e
@@ -59,7 +59,6 @@ pub begun_later : (runs : Option ℕ) (low high : ℕ) → HasBegun runs low →
 begun_later None low high b l = tt
 begun_later (Some r) low high b l = omega arith
 
-
 -- nothing happens
 pub after_refl : (runs : Option ℕ) (s : State) → After runs s s
 after_refl runs s = record {
@@ -79,8 +78,8 @@ after_trans runs s t u b h k = record {
   events = h.events ++ k.events;
   logged = k.logged ∙ (ap (λ (l : List Event). l ++ k.events) h.logged ∙ append_assoc s.trace h.events k.events);
   inside = inside_append runs s.store.begun u.store.begun h.events k.events
-    (wider runs s.store.begun t.store.begun u.store.begun h.events k.begun h.inside)
-    (lower runs s.store.begun t.store.begun u.store.begun k.events h.begun k.inside);
+      (wider runs s.store.begun t.store.begun u.store.begun h.events k.begun h.inside)
+      (lower runs s.store.begun t.store.begun u.store.begun k.events h.begun k.inside);
   last = last_append runs s.store.begun t.store.begun u.store.begun h.events k.events b h.inside k.inside h.last k.last;
   heap = later_trans s.store.heap t.store.heap u.store.heap h.heap k.heap;
   begun = omega (arith, h.begun, k.begun);

@@ -1,13 +1,13 @@
 -- What holds of each part of a run beside the same part over a deeper layer, and that it holds of parts in a row.
-use Rattle.std.proofs.Common.{◌≡◌, ◌≢◌, ℕ, zero, suc, ◌+◌, ◌<◌, ◌≤◌, Bool, true, false, if◌then◌else◌, List, [], ◌∷◌, ◌++◌, length, Option, Some, None, ◌⊎◌, inl, inr, refl, sym, ◌∙◌, ap, subst, arith, append_assoc, append-nil, suc-add, IsTrue, IsFalse}
+use Rattle.std.proofs.Common.{◌≡◌, ℕ, zero, suc, ◌+◌, ◌<◌, ◌≤◌, Bool, true, false, if◌then◌else◌, List, [], ◌∷◌, ◌++◌, length, Option, Some, None, inl, refl, sym, ◌∙◌, ap, subst, arith, append_assoc, append-nil, suc-add}
 use Rattle.luau_values.specs.Value.{Value}
 use Rattle.luau_values.specs.Later.{Later}
-use Rattle.luau_values.specs.Heap.{Heap, is_frozen, with_field}
+use Rattle.luau_values.specs.Heap.{is_frozen, with_field}
 use Rattle.luau_values.proofs.HeapFacts.{later_refl, write_later}
 use Rattle.luau_tree.specs.declared.names.Place.{Place}
-use Rattle.luau_run.specs.Machine.{Event, Reach, Leave, Answer, Store, State, Ran, Gave, Failed, Spent, Part, go_on, ◌>>=◌, ◌>>◌, give, fail, spend, step_of, step, log, look, change, Reply, Unfit, Fails, Fits, replied, asked, ask, caught, catch, write_field, begin, activate}
+use Rattle.luau_run.specs.Machine.{Event, Reach, Answer, Store, State, Ran, Gave, Failed, Spent, Part, go_on, ◌>>=◌, give, fail, spend, step_of, step, log, look, change, Reply, Unfit, Fails, Fits, replied, asked, ask, caught, catch, write_field}
 use Rattle.luau_run.specs.Run.{end_of}
-use Rattle.luau_run.specs.After.{activation_of, NoneOf, LeavesLast, IsInside, AllInside, HasBegun, After, with_more, Begins, GoesOn}
+use Rattle.luau_run.specs.After.{HasBegun, After, with_more, Begins, GoesOn}
 use Rattle.luau_run.proofs.AfterFacts.{begun_later, after_refl, after_trans, after_any}
 
 -- the steps and answers that are left
@@ -125,12 +125,12 @@ module _ (depth : ℕ) (runs : Option ℕ) {A B : Type 0} (p q : Part A) (f g : 
   pub good_taken : Good (suc depth) runs (◌>>=◌ p f) (◌>>=◌ q g)
   unfolding ◌>>=◌
   good_taken =
-    let whole : Good zero runs (◌>>=◌ p f) (◌>>=◌ q g) = good_then zero runs p q f g (shallow (omega arith) h) (λ x. shallow (omega arith) (k x)) in
-    record {
-      after = whole.after;
-      agrees = λ s b l. ap (λ (w : Ran A). go_on w f) (h.agrees s b l) ∙ agrees_taken s (q s) b (h.after s b) (takes s) l;
-      goes_on = whole.goes_on;
-    }
+      let whole : Good zero runs (◌>>=◌ p f) (◌>>=◌ q g) = good_then zero runs p q f g (shallow (omega arith) h) (λ x. shallow (omega arith) (k x)) in
+      record {
+        after = whole.after;
+        agrees = λ s b l. ap (λ (w : Ran A). go_on w f) (h.agrees s b l) ∙ agrees_taken s (q s) b (h.after s b) (takes s) l;
+        goes_on = whole.goes_on;
+      }
 
 -- ---- the smallest parts
 

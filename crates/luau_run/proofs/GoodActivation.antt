@@ -1,9 +1,9 @@
 -- An activation is a good part: its number is new, and its end is its last event.
-use Rattle.std.proofs.Common.{◌≡◌, ◌≢◌, ℕ, zero, suc, ◌+◌, ◌<◌, ◌≤◌, List, [], ◌∷◌, ◌++◌, length, Option, Some, None, ◌⊎◌, inl, inr, refl, sym, ◌∙◌, ap, subst, arith, append_assoc, append-nil}
-use Rattle.luau_run.specs.Machine.{Event, Reach, Leave, Answer, Store, State, Ran, Gave, Failed, Spent, Part, go_on, ◌>>=◌, ◌>>◌, give, log, look, change, begin, activate}
+use Rattle.std.proofs.Common.{◌≡◌, ◌≢◌, ℕ, ◌+◌, ◌<◌, ◌≤◌, List, [], ◌∷◌, ◌++◌, Some, None, ◌⊎◌, inl, inr, refl, sym, ◌∙◌, ap, subst, arith, append_assoc}
+use Rattle.luau_run.specs.Machine.{Event, Reach, Leave, Answer, State, Ran, Gave, Failed, Spent, Part, go_on, ◌>>=◌, ◌>>◌, give, log, look, change, activate}
 use Rattle.luau_run.specs.Run.{end_of}
-use Rattle.luau_run.specs.After.{activation_of, NoneOf, LeavesLast, IsInside, AllInside, HasBegun, After, with_more, Begins, GoesOn}
-use Rattle.luau_run.proofs.Good.{left, Good}
+use Rattle.luau_run.specs.After.{NoneOf, LeavesLast, IsInside, AllInside, After, with_more, Begins, GoesOn}
+use Rattle.luau_run.proofs.Good.{Good}
 
 -- the state with one more activation, and with the end of one logged
 abbrev begun_one : State → State
@@ -51,7 +51,7 @@ ended_after s t h = record {
   events = h.events ++ Leave s.store.begun ∷ [];
   logged = ap (λ (l : List Event). l ++ Leave s.store.begun ∷ []) h.logged ∙ append_assoc s.trace h.events (Leave s.store.begun ∷ []);
   inside = inside_end s.store.begun t.store.begun h.events (Leave s.store.begun)
-    (inside_new s.store.begun t.store.begun h.events (omega (arith, h.begun)) h.inside) (omega arith, omega (arith, h.begun));
+      (inside_new s.store.begun t.store.begun h.events (omega (arith, h.begun)) h.inside) (omega arith, omega (arith, h.begun));
   last = last_end s.store.begun t.store.begun h.events h.inside h.last;
   heap = h.heap;
   begun = omega (arith, h.begun);
@@ -89,12 +89,12 @@ close_goes_on n more a (Spent t) r' h = close_begins t.trace a r' h
 pub good_activate : (depth : ℕ) {A : Type 0} (f g : ℕ → Part A) → ((n : ℕ) → Good depth (Some n) (f n) (g n)) → Good depth None (activate f) (activate g)
 good_activate depth {A} f g h = record {
   after = λ s b. subst (λ (w : Ran A). After None s (end_of w)) (sym (opens g s (g s.store.begun (begun_one s)) refl))
-    (close_after s (g s.store.begun (begun_one s)) ((h s.store.begun).after (begun_one s) (omega arith)));
+      (close_after s (g s.store.begun (begun_one s)) ((h s.store.begun).after (begun_one s) (omega arith)));
   agrees = λ s b l. opens f s (f s.store.begun (begun_one s)) refl
-    ∙ (ap (close s.store.begun) ((h s.store.begun).agrees (begun_one s) (omega arith) l) ∙ sym (opens g s (g s.store.begun (begun_one s)) refl));
+      ∙ (ap (close s.store.begun) ((h s.store.begun).agrees (begun_one s) (omega arith) l) ∙ sym (opens g s (g s.store.begun (begun_one s)) refl));
   goes_on = λ n more s b.
-    let k : GoesOn n more (close s.store.begun (f s.store.begun (begun_one s))) (close s.store.begun (g s.store.begun (begun_one (with_more n more s)))) =
+      let k : GoesOn n more (close s.store.begun (f s.store.begun (begun_one s))) (close s.store.begun (g s.store.begun (begun_one (with_more n more s)))) =
       close_goes_on n more s.store.begun (f s.store.begun (begun_one s)) (g s.store.begun (begun_one (with_more n more s))) ((h s.store.begun).goes_on n more (begun_one s) (omega arith)) in
-    subst (λ (w : Ran A). GoesOn n more w (activate g (with_more n more s))) (sym (opens f s (f s.store.begun (begun_one s)) refl))
+      subst (λ (w : Ran A). GoesOn n more w (activate g (with_more n more s))) (sym (opens f s (f s.store.begun (begun_one s)) refl))
       (subst (λ (w : Ran A). GoesOn n more (close s.store.begun (f s.store.begun (begun_one s))) w) (sym (opens g (with_more n more s) (g s.store.begun (begun_one (with_more n more s))) refl)) k);
 }

@@ -1,17 +1,15 @@
 -- Calls are good parts over good layers.
-use Rattle.std.proofs.Common.{◌≡◌, ℕ, zero, suc, pred, ◌+◌, Bool, true, false, not, ◌&&◌, ◌==◌, if◌then◌else◌, List, [], ◌∷◌, length, Option, Some, None, refl, arith, slice_get, codes}
-use Rattle.std.specs.List.{find}
+use Rattle.std.proofs.Common.{ℕ, suc, pred, ◌+◌, List, [], ◌∷◌, Option, Some, None, refl, slice_get, codes}
 use Rattle.std.specs.Str.{bytes_eq}
 use Rattle.luau_values.specs.Value.{Value, Nil, Truth, Num, Str, Tab, Lit, Builtin, Other}
 use Rattle.luau_values.proofs.HeapFacts.{later_refl}
-use Rattle.luau_tree.specs.Tree.{Block, no_stats, more_stats, Body, the_body, Bind, the_bind, Binds, no_binds, more_binds}
-use Rattle.luau_tree.specs.declared.position.Span.{Span}
+use Rattle.luau_tree.specs.Tree.{Block, no_stats, more_stats, Body, the_body, the_bind, Binds, no_binds, more_binds}
 use Rattle.luau_run.specs.Program.{Signature, declaration, ReadModule, Program}
-use Rattle.luau_run.specs.Machine.{Act, Write, Freeze, Make, Calls, Catches, Closure, Part, ◌>>=◌, ◌>>◌, give, step, change, catch, bind_local, activate}
-use Rattle.luau_run.specs.Answers.{is_closure, Aim, ForResults, Freedom, Free, Move, Acts, Ends, a_move}
+use Rattle.luau_run.specs.Machine.{Act, Write, Freeze, Make, Calls, Catches, Closure, Part}
+use Rattle.luau_run.specs.Answers.{Aim, ForResults, Freedom, Free, Move, Acts, Ends}
 use Rattle.luau_run.specs.Layer.{Frame, Ending, Falls, Breaks, Continues, Returns, Layer, first}
-use Rattle.luau_run.specs.Calls.{act, acts_from, acts, given_by, type_name, frozen, results_or_none, free_builtin, meaning, declared_call, call_builtin, block, block_rest, returned, after_first, bind_params, reach_params, bind_captured, run_in, kept_args, frame_of, enter, call_closure, call, loaded_value, enter_module, require_from, require}
-use Rattle.luau_run.proofs.Good.{Good, good_then, good_taken, ask_takes, good_ask, good_change, good_any, shallow, good_give, good_look, good_if, good_log, good_spend, good_fail, good_write, good_catch}
+use Rattle.luau_run.specs.Calls.{act, acts_from, acts, given_by, type_name, frozen, free_builtin, meaning, declared_call, call_builtin, block, block_rest, after_first, bind_params, reach_params, bind_captured, run_in, kept_args, frame_of, enter, call_closure, call, enter_module, require_from, require}
+use Rattle.luau_run.proofs.Good.{Good, good_then, good_taken, ask_takes, good_ask, good_change, good_any, good_give, good_look, good_if, good_log, good_spend, good_fail, good_write, good_catch}
 use Rattle.luau_run.proofs.GoodActivation.{good_activate}
 use Rattle.luau_run.proofs.GoodOperators.{good_table, good_freeze, good_bind, good_new_cell}
 use Rattle.luau_run.proofs.GoodLayer.{GoodLayer, good_step_then, parts}
@@ -63,7 +61,7 @@ good_reaches depth frame function index no_binds args = good_give depth (Some fr
 good_reaches depth frame function index (more_binds b rest) args =
     good_then depth (Some frame.activation) _ _ _ _ (good_look depth (Some frame.activation)) (λ store.
     good_then depth (Some frame.activation) _ _ _ _
-      (good_if depth (Some frame.activation) _ _ _ _ _ (good_log depth frame.activation frame.module_at _) (good_give depth (Some frame.activation) tt)) (λ x.
+    (good_if depth (Some frame.activation) _ _ _ _ _ (good_log depth frame.activation frame.module_at _) (good_give depth (Some frame.activation) tt)) (λ x.
     good_reaches depth frame function (index + 1) rest (after_first args)))
 
 module _ (depth : ℕ) (l m : Layer) (h : GoodLayer depth l m) where
@@ -101,10 +99,10 @@ module _ (depth : ℕ) (l m : Layer) (h : GoodLayer depth l m) where
   good_meaning : (signature : Signature) (path : List ℕ) (args : List Value) → Good depth None (meaning l signature path args) (meaning m signature path args)
   good_meaning signature path args =
       good_if depth None (bytes_eq path (codes "type")) _ _ _ _
-        (good_then depth None _ _ _ _ (good_type depth None (first args)) (λ v. good_given depth None signature (v ∷ [])))
-        (good_if depth None (bytes_eq path (codes "table.freeze")) _ _ _ _
-          (good_then depth None _ _ _ _ (good_frozen depth None (first args)) (λ v. good_given depth None signature (v ∷ [])))
-          (good_free signature))
+      (good_then depth None _ _ _ _ (good_type depth None (first args)) (λ v. good_given depth None signature (v ∷ [])))
+      (good_if depth None (bytes_eq path (codes "table.freeze")) _ _ _ _
+      (good_then depth None _ _ _ _ (good_frozen depth None (first args)) (λ v. good_given depth None signature (v ∷ [])))
+      (good_free signature))
 
   good_declared : (signature : Option Signature) (path : List ℕ) (args : List Value) → Good depth None (declared_call l signature path args) (declared_call m signature path args)
   good_declared None path args = good_spend depth None (List Value)

@@ -1,5 +1,5 @@
 -- Expressions are good parts over good layers.
-use Rattle.std.proofs.Common.{◌≡◌, ℕ, zero, suc, pred, ◌+◌, ◌<◌, Bool, true, false, not, if◌then◌else◌, List, [], ◌∷◌, ◌++◌, length, Option, Some, None, refl, arith, slice_get}
+use Rattle.std.proofs.Common.{◌≡◌, ℕ, zero, suc, pred, Bool, not, List, [], ◌∷◌, Option, Some, None, refl, arith}
 use Rattle.luau_values.specs.Value.{Value, Nil, Truth, Num, Str, Tab, Lit, Builtin, Other}
 use Rattle.luau_values.specs.Heap.{Field, written}
 use Rattle.luau_values.proofs.HeapFacts.{later_refl}
@@ -7,15 +7,14 @@ use Rattle.luau_tree.specs.Tree.{Expr, the_expr, Exprs, no_exprs, more_exprs, Ex
 use Rattle.luau_tree.specs.Tree as plain
 use Rattle.luau_tree.specs.declared.names.BinOp.{BinOp}
 use Rattle.luau_tree.specs.declared.names.BinOp.TheVariants.{Or, And, Less, Greater, LessEqual, GreaterEqual, NotEqual, Equal, Concat, Add, Sub, Mul, Div, FloorDiv, Mod, Pow}
-use Rattle.luau_tree.specs.declared.names.Place.TheVariants.{Expr as ExprPlace}
-use Rattle.luau_run.specs.Program.{Use, UseLocal, UseBuiltin, UseLibrary, UseGlobal, ReadModule, Program}
-use Rattle.luau_run.specs.Machine.{Event, State, Part, ◌>>=◌, ◌>>◌, give, step, step_of, log, go_on, look, ask}
-use Rattle.luau_run.specs.Layer.{Frame, Layer, first}
-use Rattle.luau_run.specs.Operators.{is_true, binary, unary, field, element, or_any}
-use Rattle.luau_run.specs.Expressions.{value, all_values, reach, cell_of, cell_or_spend, local_cell, cell_value, local_value, named, captured_cells, number_of, make_closure, is_library, off_library, either_value, binary_rest, chosen, keyed_field, item_fields, one, static_require, call_expr, each_value, evaluate, evaluate_or_builtin, values}
-use Rattle.luau_run.proofs.Good.{Good, good_then, good_taken, good_step, good_log, HasTaken, left, good_ask, good_change, good_any, good_give, good_look, good_if, good_spend, good_fail}
-use Rattle.luau_run.proofs.GoodOperators.{good_table, good_binary, good_unary, good_field, good_element, good_or_any}
-use Rattle.luau_run.proofs.GoodLayer.{GoodLayer, good_step_then, parts}
+use Rattle.luau_run.specs.Program.{Use, UseLocal, UseBuiltin, UseLibrary, UseGlobal, Program}
+use Rattle.luau_run.specs.Machine.{Event, State, Part, ◌>>=◌, step, step_of, log, go_on}
+use Rattle.luau_run.specs.Layer.{Frame, Layer}
+use Rattle.luau_run.specs.Operators.{is_true, binary}
+use Rattle.luau_run.specs.Expressions.{value, all_values, reach, cell_or_spend, local_cell, cell_value, local_value, named, captured_cells, make_closure, is_library, either_value, binary_rest, chosen, keyed_field, item_fields, one, static_require, call_expr, each_value, evaluate, evaluate_or_builtin, values}
+use Rattle.luau_run.proofs.Good.{Good, good_then, good_taken, good_step, good_log, HasTaken, left, good_ask, good_change, good_any, good_give, good_look, good_if, good_spend}
+use Rattle.luau_run.proofs.GoodOperators.{good_table, good_binary, good_unary, good_named_field, good_element}
+use Rattle.luau_run.proofs.GoodLayer.{GoodLayer, good_step_then}
 use Rattle.luau_run.proofs.GoodCalls.{good_call}
 
 good_cell_or_spend : (depth : ℕ) (runs : Option ℕ) (cell : Option ℕ) → Good depth runs (cell_or_spend cell) (cell_or_spend cell)
@@ -47,9 +46,6 @@ good_cells depth frame (local ∷ locals) = good_then depth (Some frame.activati
 pub good_closure : (depth : ℕ) (frame : Frame) (code : Body) → Good depth (Some frame.activation) (make_closure frame code) (make_closure frame code)
 good_closure depth frame code = good_then depth (Some frame.activation) _ _ _ _ (good_cells depth frame _) (λ cells.
     good_then depth (Some frame.activation) _ _ _ _ (good_change depth (Some frame.activation) _ (λ s. later_refl s.heap) (λ s. refl)) (λ x. good_give depth (Some frame.activation) _))
-
-good_off : (depth : ℕ) (runs : Option ℕ) (program : Program) (off : Bool) (v : Value) → Good depth runs (off_library program off v) (off_library program off v)
-good_off depth runs program off v = good_if depth runs off _ _ _ _ (good_or_any depth runs program v) (good_give depth runs v)
 
 good_keyed : (depth : ℕ) (runs : Option ℕ) (key v : Value) (fields : List Field) → Good depth runs (keyed_field key v fields) (keyed_field key v fields)
 good_keyed depth runs Nil v fields = good_then depth runs _ _ _ _ (good_ask depth runs _) (λ x. good_give depth runs fields)
@@ -149,12 +145,12 @@ module _ (depth : ℕ) (l m : Layer) (h : GoodLayer depth l m) where
   good_evaluate program frame id (FunctionExpr code) = good_one frame _ _ (good_closure depth frame code)
   good_evaluate program frame id (NameExpr name) = good_one frame _ _ (good_named depth program frame name _)
   good_evaluate program frame id (Index base name) = good_one frame _ _ (good_then depth (Some frame.activation) _ _ _ _ (good_value frame base) (λ b.
-      good_then depth (Some frame.activation) _ _ _ _ (good_field depth (Some frame.activation) program name b) (λ v. good_off depth (Some frame.activation) program (is_library frame base) v)))
+      good_named_field depth (Some frame.activation) program (is_library frame base) name b))
   good_evaluate program frame id (At base key) = good_one frame _ _ (good_then depth (Some frame.activation) _ _ _ _ (good_value frame base) (λ b. good_then depth (Some frame.activation) _ _ _ _ (good_value frame key) (λ k.
-      good_then depth (Some frame.activation) _ _ _ _ (good_element depth (Some frame.activation) program k b) (λ v. good_off depth (Some frame.activation) program (is_library frame base) v))))
+      good_element depth (Some frame.activation) program (is_library frame base) k b)))
   good_evaluate program frame id (Call callee args) = good_call_expr frame (frame.reading.required id) callee args
   good_evaluate program frame id (Method base name name_span args) = good_then depth (Some frame.activation) _ _ _ _ (good_value frame base) (λ b. good_then depth (Some frame.activation) _ _ _ _ (good_all frame args) (λ vs.
-      good_then depth (Some frame.activation) _ _ _ _ (good_field depth (Some frame.activation) program name b) (λ f.
+      good_then depth (Some frame.activation) _ _ _ _ (good_named_field depth (Some frame.activation) program (is_library frame base) name b) (λ f.
       good_step_then depth (Some frame.activation) _ _ (good_call depth l m h (Some frame.activation) f (b ∷ vs)))))
   good_evaluate program frame id (Paren e) = good_one frame _ _ (good_value frame e)
   good_evaluate program frame id (Unary op e) = good_one frame _ _ (good_then depth (Some frame.activation) _ _ _ _ (good_value frame e) (λ v. good_unary depth (Some frame.activation) program op v))

@@ -1,10 +1,10 @@
 -- A layer beside a deeper one, and the forms that take a step first.
-use Rattle.std.proofs.Common.{ℕ, zero, suc, pred, ◌≤◌, Option, Some, None, List, arith}
+use Rattle.std.proofs.Common.{ℕ, zero, suc, pred, Option, Some, None, List}
 use Rattle.luau_values.specs.Value.{Value}
 use Rattle.luau_tree.specs.Tree.{Expr, Stat}
-use Rattle.luau_run.specs.Machine.{Part, ◌>>=◌, ◌>>◌, step}
+use Rattle.luau_run.specs.Machine.{Part, ◌>>=◌, step}
 use Rattle.luau_run.specs.Answers.{Aim, Freedom}
-use Rattle.luau_run.specs.Layer.{Frame, Ending, Loop, Layer}
+use Rattle.luau_run.specs.Layer.{Frame, Loop, Layer}
 use Rattle.luau_run.proofs.Good.{Good, good_then, good_taken, good_step, step_takes, shallow, good_any, good_give, good_fail, good_spend, good_look, good_ask, good_log, good_if, good_catch, good_write}
 use Rattle.luau_run.proofs.GoodOperators.{good_anything, good_table, good_freeze, good_new_cell, good_set_cell, good_bind}
 

@@ -1,17 +1,16 @@
 -- Each layer beside a deeper one, and runs beside runs with more steps and answers.
-use Rattle.std.proofs.Common.{◌≡◌, ℕ, zero, suc, pred, ◌+◌, ◌<◌, ◌≤◌, List, [], ◌∷◌, ◌++◌, length, Option, Some, None, refl, sym, ◌∙◌, ap, subst, arith, slice_get, length-append, suc-add, append-nil}
+use Rattle.std.proofs.Common.{◌≡◌, ℕ, zero, suc, ◌+◌, ◌<◌, List, [], ◌++◌, length, Some, None, sym, ◌∙◌, ap, subst, arith, slice_get, length-append, suc-add, append-nil}
 use Rattle.luau_values.specs.Later.{Later}
 use Rattle.luau_values.specs.Heap.{start_heap}
 use Rattle.luau_values.specs.Value.{Value}
 use Rattle.luau_tree.specs.Tree.{Expr, Stat}
 use Rattle.luau_run.specs.Program.{Program, paths}
-use Rattle.luau_run.specs.Machine.{Event, Answer, State, Ran, Gave, Failed, Spent, Part, spend}
+use Rattle.luau_run.specs.Machine.{Event, Answer, State, Ran, Gave, Failed, Spent, Part}
 use Rattle.luau_run.specs.Layer.{Frame, Ending, Layer}
 use Rattle.luau_run.specs.Calls.{enter_module}
 use Rattle.luau_run.specs.Run.{next, lowest, layer_of, start, run, end_of, trace}
-use Rattle.luau_run.specs.After.{LeavesLast, AllInside, HasBegun, After, with_more, Begins, GoesOn}
-use Rattle.luau_run.proofs.AfterFacts.{after_refl}
-use Rattle.luau_run.proofs.Good.{left, Good, good_spend, good_lowest}
+use Rattle.luau_run.specs.After.{LeavesLast, After, Begins, GoesOn}
+use Rattle.luau_run.proofs.Good.{Good, good_spend, good_lowest}
 use Rattle.luau_run.proofs.GoodLayer.{GoodLayer}
 use Rattle.luau_run.proofs.GoodCalls.{acts_next, call_next, require_next, good_module}
 use Rattle.luau_run.proofs.GoodExpressions.{values_next}
@@ -78,14 +77,14 @@ depth_of steps n tape more = omega (arith, length-append tape more)
 pub run_after : (program : Program) (entry steps : ℕ) (tape : List Answer) → After None (start program steps tape) (end_of (run program entry steps tape))
 run_after program entry steps tape =
     (good_module (suc (steps + length tape)) (layer_of program (suc (steps + length tape))) (layer_of program (suc (steps + length tape)))
-      (itself program (suc (steps + length tape))) entry (slice_get program.modules entry)).after (start program steps tape) tt
+    (itself program (suc (steps + length tape))) entry (slice_get program.modules entry)).after (start program steps tape) tt
 
 pub run_goes_on : (program : Program) (entry steps : ℕ) (tape : List Answer) (n : ℕ) (more : List Answer)
     → GoesOn n more (run program entry steps tape) (run program entry (steps + n) (tape ++ more))
 unfolding at_depth
 run_goes_on program entry steps tape n more =
     subst (λ (d : ℕ). GoesOn n more (run program entry steps tape) (at_depth program entry d (start program (steps + n) (tape ++ more)))) (sym (depth_of steps n tape more))
-      ((good_run program entry (suc (steps + length tape)) (n + length more)).goes_on n more (start program steps tape) tt)
+    ((good_run program entry (suc (steps + length tape)) (n + length more)).goes_on n more (start program steps tape) tt)
 
 pub deep_enough : (program : Program) (entry steps : ℕ) (tape : List Answer) (more : ℕ)
     → run program entry steps tape ≡ enter_module (layer_of program (suc (steps + length tape) + more)) entry (slice_get program.modules entry) (start program steps tape)

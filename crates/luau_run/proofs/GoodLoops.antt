@@ -1,10 +1,10 @@
 -- The turns of loops are good parts over good layers.
-use Rattle.std.proofs.Common.{◌≡◌, ℕ, zero, suc, pred, ◌+◌, ◌≤◌, arith, Bool, true, false, if◌then◌else◌, List, [], ◌∷◌, Option, Some, None}
+use Rattle.std.proofs.Common.{ℕ, zero, suc, pred, ◌≤◌, arith, List, [], ◌∷◌, Option, Some, None}
 use Rattle.luau_values.specs.Value.{Value, is_nil}
 use Rattle.luau_tree.specs.Tree.{Expr, Block, Binds, no_binds, more_binds, the_bind}
 use Rattle.luau_run.specs.Program.{Program}
-use Rattle.luau_run.specs.Machine.{Part, ◌>>=◌, ◌>>◌, give, step}
-use Rattle.luau_run.specs.Answers.{a_number_turn, a_turn, ForTurn, Free}
+use Rattle.luau_run.specs.Machine.{Part}
+use Rattle.luau_run.specs.Answers.{ForTurn, Free}
 use Rattle.luau_run.specs.Layer.{Frame, Ending, Falls, Breaks, Continues, Returns, Loop, WhileLoop, RepeatLoop, NumLoop, FunctionLoop, TableLoop, OtherLoop, Layer, first}
 use Rattle.luau_run.specs.Operators.{is_true}
 use Rattle.luau_run.specs.Calls.{after_first}

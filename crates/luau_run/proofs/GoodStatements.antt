@@ -1,18 +1,17 @@
 -- Statements are good parts over good layers.
-use Rattle.std.proofs.Common.{◌≡◌, ℕ, zero, suc, pred, ◌+◌, Bool, true, false, not, if◌then◌else◌, List, [], ◌∷◌, Option, Some, None}
+use Rattle.std.proofs.Common.{ℕ, suc, not, List, [], ◌∷◌, Option, Some, None}
 use Rattle.std.specs.List.{list_any}
 use Rattle.luau_values.specs.Value.{Value, Nil, Truth, Num, Str, Tab, Lit, Builtin, Other}
 use Rattle.luau_tree.specs.Tree.{Expr, the_expr, Exprs, no_exprs, more_exprs, MaybeExpr, no_expr, an_expr, NilExpr, TrueExpr, FalseExpr, NumberExpr, StrExpr, Vararg, FunctionExpr, NameExpr, Index, At, Call, Method, Paren, Unary, Binary, IfElse, TableExpr, Interp, Block, Stat, the_stat, StatKind, Assign, Compound, CallStat, Do, While, Repeat, If, NumFor, GenFor, FunctionStat, LocalFunction, Local, TypeAlias, TypeFunction, Return, Break, Continue, Arms, no_arms, more_arms, MaybeBlock, no_block, a_block, Body, Bind, the_bind, Binds}
 use Rattle.luau_tree.specs.Tree as plain
 use Rattle.luau_tree.specs.declared.names.BinOp.{BinOp}
 use Rattle.luau_run.specs.Program.{Program}
-use Rattle.luau_run.specs.Machine.{Part, ◌>>=◌, ◌>>◌, give, fail, step, log, look, ask}
-use Rattle.luau_run.specs.Layer.{Frame, Ending, Falls, Returns, Loop, WhileLoop, RepeatLoop, NumLoop, FunctionLoop, TableLoop, OtherLoop, Layer, first}
-use Rattle.luau_run.specs.Operators.{is_true, field, element, set_field}
+use Rattle.luau_run.specs.Layer.{Frame, Ending, WhileLoop, RepeatLoop, NumLoop, TableLoop, OtherLoop, Layer, first}
+use Rattle.luau_run.specs.Operators.{is_true}
 use Rattle.luau_run.specs.Calls.{after_first}
-use Rattle.luau_run.specs.Statements.{Target, LocalTarget, GlobalTarget, FieldTarget, ElementTarget, target, targets, set_other, set_element, write_to, write_all, read_from, place_of, compound, branches, is_wrong, is_number, begin_for, bounds_of, iterate, define, define_local, number_for, execute, stat}
+use Rattle.luau_run.specs.Statements.{Target, LocalTarget, GlobalTarget, FieldTarget, ElementTarget, target, targets, set_other, set_element, write_to, write_all, read_from, compound, branches, is_wrong, is_number, begin_for, bounds_of, iterate, define, define_local, number_for, execute, stat}
 use Rattle.luau_run.proofs.Good.{Good, good_then, good_taken, good_step, step_takes, good_ask, good_give, good_look, good_if, good_log, good_spend, good_fail}
-use Rattle.luau_run.proofs.GoodOperators.{good_new_cell, good_set_cell, good_bind, good_binary, good_field, good_element, good_set_field}
+use Rattle.luau_run.proofs.GoodOperators.{good_new_cell, good_set_cell, good_bind, good_binary, good_named_field, good_element, good_set_field}
 use Rattle.luau_run.proofs.GoodLayer.{GoodLayer}
 use Rattle.luau_run.proofs.GoodCalls.{good_block}
 use Rattle.luau_run.proofs.GoodExpressions.{good_value, good_all, good_local_cell, good_local_value, good_closure}
@@ -41,8 +40,8 @@ good_set_element depth runs (Other k) written base = good_set_other depth runs b
 good_write_to : (depth : ℕ) (frame : Frame) (t : Target) (written : Value) → Good depth (Some frame.activation) (write_to frame t written) (write_to frame t written)
 good_write_to depth frame (LocalTarget local) written = good_then depth (Some frame.activation) _ _ _ _ (good_local_cell depth frame local) (λ cell. good_set_cell depth (Some frame.activation) cell written)
 good_write_to depth frame GlobalTarget written = good_give depth (Some frame.activation) _
-good_write_to depth frame (FieldTarget base name) written = good_set_field depth (Some frame.activation) name written base
-good_write_to depth frame (ElementTarget base key) written = good_set_element depth (Some frame.activation) key written base
+good_write_to depth frame (FieldTarget off base name) written = good_set_field depth (Some frame.activation) name written base
+good_write_to depth frame (ElementTarget off base key) written = good_set_element depth (Some frame.activation) key written base
 
 good_write_all : (depth : ℕ) (frame : Frame) (ts : List Target) (values : List Value) → Good depth (Some frame.activation) (write_all frame ts values) (write_all frame ts values)
 good_write_all depth frame [] values = good_give depth (Some frame.activation) _
@@ -51,8 +50,8 @@ good_write_all depth frame (t ∷ ts) values = good_then depth (Some frame.activ
 good_read : (depth : ℕ) (program : Program) (frame : Frame) (t : Target) → Good depth (Some frame.activation) (read_from program frame t) (read_from program frame t)
 good_read depth program frame (LocalTarget local) = good_local_value depth frame local
 good_read depth program frame GlobalTarget = good_then depth (Some frame.activation) _ _ _ _ (good_look depth (Some frame.activation)) (λ store. good_ask depth (Some frame.activation) _)
-good_read depth program frame (FieldTarget base name) = good_field depth (Some frame.activation) program name base
-good_read depth program frame (ElementTarget base key) = good_element depth (Some frame.activation) program key base
+good_read depth program frame (FieldTarget off base name) = good_named_field depth (Some frame.activation) program off name base
+good_read depth program frame (ElementTarget off base key) = good_element depth (Some frame.activation) program off key base
 
 good_begin : (depth : ℕ) (runs : Option ℕ) (bounds : List Value) → Good depth runs (begin_for bounds) (begin_for bounds)
 good_begin depth runs bounds = good_if depth runs (list_any is_wrong bounds) _ _ _ _ (good_fail depth runs (Unit {0}))

@@ -1,7 +1,7 @@
 -- How the states and the traces of a run stand to one another.
 use Rattle.std.specs.Prelude.{◌≡◌, ◌≢◌, ℕ, ◌+◌, ◌<◌, ◌≤◌, List, [], ◌∷◌, ◌++◌, length, Option, Some, None, ◌⊎◌, ⊤}
 use Rattle.luau_values.specs.Later.{Later}
-use Rattle.luau_run.specs.Machine.{Event, Reach, Leave, Answer, State, Ran, Gave, Failed, Spent, Part}
+use Rattle.luau_run.specs.Machine.{Event, Reach, Leave, Answer, State, Ran, Gave, Failed, Spent}
 use Rattle.luau_run.specs.Run.{end_of}
 
 -- the activation that an event belongs to

@@ -1,5 +1,5 @@
 -- Certainty: no activation that reaches a reported place is left but by a run-time error.
-use Rattle.std.specs.Prelude.{◌≡◌, ◌≢◌, ℕ, List, [], ◌∷◌, ⊤}
+use Rattle.std.specs.Prelude.{◌≢◌, ℕ, List, [], ◌∷◌, ⊤}
 use Rattle.std.specs.List.{Contains}
 use Rattle.luau_tree.specs.declared.names.Place.{Place}
 use Rattle.luau_run.specs.Program.{Program}

@@ -12,7 +12,7 @@ use Rattle.luau_run.specs.Program.{Use, UseLocal, UseBuiltin, UseLibrary, UseGlo
 use Rattle.luau_run.specs.Machine.{Reach, Binding, Part, ◌>>=◌, ◌>>◌, give, spend, step, log, look, change, ask, make_table}
 use Rattle.luau_run.specs.Answers.{a_value, a_string, yes_or_fail}
 use Rattle.luau_run.specs.Layer.{Frame, Layer, first}
-use Rattle.luau_run.specs.Operators.{is_true, binary, unary, field, element, or_any}
+use Rattle.luau_run.specs.Operators.{is_true, binary, unary, named_field, element}
 
 -- the one value of an expression where it doesn't expand
 abbrev pub value : Layer → Frame → Expr → Part Value
@@ -97,10 +97,6 @@ stands_for_library _ = false
 abbrev pub is_library : Frame → Expr → Bool
 is_library frame (the_expr id span kind) = stands_for_library (frame.reading.use_of id)
 
--- a read straight off a library's name gives any value where nothing is declared
-abbrev pub off_library : Program → Bool → Value → Part Value
-off_library program off v = if off then or_any program v else give v
-
 -- the rest of `a and b` and of `a or b`, after a
 abbrev pub either_value : Layer → Frame → (done : Bool) → Value → Expr → Part Value
 either_value layer frame done v right = if done then give v else value layer frame right
@@ -172,18 +168,16 @@ evaluate program layer frame id (FunctionExpr code) = one (make_closure frame co
 evaluate program layer frame id (NameExpr name) = one (named program frame name (frame.reading.use_of id))
 evaluate program layer frame id (Index base name) = one (do
   b ← value layer frame base
-  v ← field program name b
-  off_library program (is_library frame base) v)
+  named_field program (is_library frame base) name b)
 evaluate program layer frame id (At base key) = one (do
   b ← value layer frame base
   k ← value layer frame key
-  v ← element program k b
-  off_library program (is_library frame base) v)
+  element program (is_library frame base) k b)
 evaluate program layer frame id (Call callee args) = call_expr layer frame (frame.reading.required id) callee args
 evaluate program layer frame id (Method base name name_span args) = do
   b ← value layer frame base
   values ← all_values layer frame args
-  f ← field program name b
+  f ← named_field program (is_library frame base) name b
   step
   layer.call f (b ∷ values)
 evaluate program layer frame id (Paren e) = one (value layer frame e)

@@ -26,6 +26,7 @@ pub data Sort : Type 0 where
   -- nil, a boolean, a function or a table
   IsWrong : Sort
 
+-- the sort of a value
 abbrev pub sort : Value → Sort
 sort (Num text) = IsNumber
 sort (Str bytes) = IsString
@@ -56,6 +57,7 @@ joined program IsWrong right = fail
 joined program left IsWrong = fail
 joined program left right = ask a_string
 
+-- a truth as a value
 abbrev pub says : Bool → Value
 says truth = Truth truth
 
@@ -90,18 +92,21 @@ binary program LessEqual left right = ordered (sort left) (sort right)
 binary program GreaterEqual left right = ordered (sort left) (sort right)
 binary program _ left right = arithmetic_of program (sort left) (sort right)
 
+-- unary minus
 abbrev pub negated : Program → Sort → Part Value
 negated program IsNumber = ask (number_or_fail false)
 negated program IsString = ask (number_or_fail true)
 negated program IsOther = anything program
 negated program IsWrong = fail
 
+-- `#`
 abbrev pub length_of : Program → Value → Part Value
 length_of program (Str bytes) = ask a_number
 length_of program (Tab address) = ask a_number
 length_of program (Other number) = anything program
 length_of program _ = fail
 
+-- a unary operation on a value
 abbrev pub unary : Program → UnOp → Value → Part Value
 unary program Minus value = negated program (sort value)
 unary program Not value = give (says (not (is_true value)))
@@ -112,23 +117,29 @@ abbrev pub string_field : Program → List ℕ → Value
 string_field program name =
     if is_some (declaration program.builtins (codes "string." ++ name)) then Builtin (codes "string." ++ name) else Nil
 
--- the field of a value
+-- the named field of a value
 abbrev pub field : Program → List ℕ → Value → Part Value
 field program name (Tab address) = look >>= (λ store. give (field_of store.heap address name))
 field program name (Str bytes) = give (string_field program name)
 field program name (Other number) = anything program
 field program name _ = fail
 
+-- a value, or any value in place of nil
 abbrev pub or_any : Program → Value → Part Value
 or_any program value = if is_nil value then (look >>= (λ store. ask (a_value program store))) else give value
 
+-- what a name reads as in a value; straight off a library's name it is any value where nothing is declared
+abbrev pub named_field : Program → (off_library : Bool) → List ℕ → Value → Part Value
+named_field program off_library name value =
+    field program name value >>= (λ found. if off_library then or_any program found else give found)
+
 -- what stands in a value under a key; only a string is a name
-abbrev pub element : Program → (key value : Value) → Part Value
-element program (Str name) value = field program name value
-element program key (Tab address) = look >>= (λ store. ask (a_value program store))
-element program key (Str bytes) = look >>= (λ store. ask (a_value program store))
-element program key (Other number) = anything program
-element program key _ = fail
+abbrev pub element : Program → (off_library : Bool) → (key value : Value) → Part Value
+element program off_library (Str name) value = named_field program off_library name value
+element program off_library key (Tab address) = look >>= (λ store. ask (a_value program store))
+element program off_library key (Str bytes) = look >>= (λ store. ask (a_value program store))
+element program off_library key (Other number) = anything program
+element program off_library key _ = fail
 
 -- a write to a field
 abbrev pub set_field : List ℕ → (written value : Value) → Part (Unit {0})

@@ -65,7 +65,7 @@ pub record ReadModule : Type 0 where
   pub use_of : ℕ → Option Use
   -- the local whose name is declared at an offset
   pub local_at : ℕ → ℕ
-  -- the locals from outside that a body uses
+  -- the locals from outside that a body uses, itself or in a function literal within
   pub captured : ℕ → List ℕ
   -- what the annotation of a body's parameter says of its argument
   pub annotated : (function index : ℕ) → Kind

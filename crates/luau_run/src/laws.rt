@@ -20,8 +20,7 @@ pub fn runs_go_on()
         → GoesOn n more (run program entry steps tape) (run program entry (steps + n) (tape ++ more)) }
     ensures traces { (program : Program) (entry steps : ℕ) (tape : List Answer) (n : ℕ) (more : List Answer)
         → Begins (trace program entry steps tape) (trace program entry (steps + n) (tape ++ more)) }
-{
-}
+{}
 
 /// A run is spent for want of steps or answers alone: over a deeper layer it is the same.
 #[tactic(auto, using(crate::proofs::GoodLayers::deep_enough))]
@@ -29,23 +28,20 @@ pub fn depth_is_enough()
     ensures { (program : Program) (entry steps : ℕ) (tape : List Answer) (more : ℕ)
         → run program entry steps tape
         ≡ enter_module (layer_of program (suc (steps + length tape) + more)) entry (slice_get program.modules entry) (start program steps tape) }
-{
-}
+{}
 
 /// Whatever a module does, frozen tables stay, and the libraries' tables with them.
 #[tactic(auto, using(crate::proofs::GoodLayers::heap_later))]
 pub fn heap_is_later()
     ensures { (program : Program) (entry steps : ℕ) (tape : List Answer)
         → Later (start_heap (paths program)) (end_of (run program entry steps tape)).store.heap }
-{
-}
+{}
 
 /// The end of an activation's body is the last that the activation logs.
 #[tactic(auto, using(crate::proofs::GoodLayers::leaves_last))]
 pub fn end_is_last()
     ensures { (program : Program) (entry steps : ℕ) (tape : List Answer) → LeavesLast (trace program entry steps tape) }
-{
-}
+{}
 
 /// Each expression, statement and call, of whatever depth, only logs more, keeps frozen tables, and takes steps and
 /// answers; what it logs belongs to the activation that runs or to new ones.
@@ -57,8 +53,7 @@ pub fn parts_only_add()
         → After (Some frame.activation) s (end_of ((layer_of program depth).stat frame x s)) }
     ensures calls { (program : Program) (depth : ℕ) (callee : Value) (args : List Value) (s : State)
         → After None s (end_of ((layer_of program depth).call callee args s)) }
-{
-}
+{}
 
 /// A checked builtin fails on arguments outside its declaration, and asks for nothing first.
 #[tactic(auto, using(crate::proofs::CallFacts::checked_call_fails))]
@@ -66,13 +61,11 @@ pub fn checked_call_fails()
     ensures { (program : Program) (layer : Layer) (path : List ℕ) (signature : Signature) (args : List Value) (state : State)
         → declaration program.builtins path ≡ Some signature → IsTrue signature.checked → IsFalse (takes signature state.store.heap args)
         → call_builtin program layer path args state ≡ Failed state }
-{
-}
+{}
 
 /// An answer that doesn't fit spends the run: it is no failure.
 #[tactic(auto, using(crate::proofs::CallFacts::unfit_spends))]
 pub fn unfit_answer_spends()
     ensures { (reply : Answer → Reply Value) (answer : Answer) (rest : List Answer) (state : State)
         → state.tape ≡ answer ∷ rest → reply answer ≡ Unfit → ask reply state ≡ Spent state }
-{
-}
+{}

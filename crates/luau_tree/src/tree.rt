@@ -325,3 +325,6 @@ pub enum PropKey {
     /// `[K]: T`
     Indexer(TypeSyntax),
 }
+
+#[cfg(test)]
+mod tests;
