@@ -9,3 +9,4 @@ pub mod GoodLoops
 pub mod GoodStatements
 pub mod GoodLayers
 pub mod CallFacts
+pub mod ExampleFacts

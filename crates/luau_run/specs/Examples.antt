@@ -2,6 +2,7 @@
 use Rattle.std.specs.Prelude.{ℕ, zero, suc, true, false, List, [], ◌∷◌, Option, Some, None, codes}
 use Rattle.luau_values.specs.Value.{Num}
 use Rattle.luau_tree.specs.declared.position.Span.{Span}
+use Rattle.luau_tree.specs.declared.names.Place.{Place}
 use Rattle.luau_tree.specs.declared.names.Place.TheVariants.{Expr as ExprPlace}
 use Rattle.luau_tree.specs.Tree.{Block, no_stats, more_stats, the_stat, CallStat, the_expr, no_exprs, more_exprs, ExprKind, Call, Index, NameExpr}
 use Rattle.luau_run.specs.Program.{Kind, Declared, Use, UseBuiltin, UseLibrary, Program}
@@ -79,3 +80,7 @@ outcome_and_trace literal steps tape =
 -- the place of an expression of the module is reached by its own activation
 abbrev pub reached : ℕ → Event
 reached id = Reach 0 0 (ExprPlace (record { 0 = id }))
+
+-- a report at the literal
+abbrev pub at_literal : List (ℕ × Place)
+at_literal = (0, ExprPlace (record { 0 = 3 })) ∷ []

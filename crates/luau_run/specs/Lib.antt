@@ -11,3 +11,4 @@ pub mod Run
 pub mod Certain
 pub mod After
 pub mod Examples
+pub mod Forms

@@ -4,7 +4,8 @@ ghost use Rattle.std.specs.Prelude.{◌≡◌, [], ◌∷◌, codes};
 ghost use Rattle.luau_values.specs.Value.{Num, Str};
 ghost use Rattle.luau_tree.specs.Tree.{StrExpr, NumberExpr};
 ghost use Rattle.luau_run.specs.Machine.{Leave, Done};
-ghost use Rattle.luau_run.specs.Examples.{Normal, Failure, Unfinished, outcome_and_trace, reached};
+ghost use Rattle.luau_run.specs.Certain.{Certain};
+ghost use Rattle.luau_run.specs.Examples.{Normal, Failure, Unfinished, outcome_and_trace, reached, calling_abs, at_literal};
 
 /// `math.abs("hi")`: the call's place is reached, then the callee's and the argument's, and then the call fails.
 /// It needs five steps and no answer: with four it is unfinished at the call, with three before the argument.
@@ -21,3 +22,10 @@ pub fn right_argument()
     ensures string { outcome_and_trace (NumberExpr (codes "1")) 9 (Done (Str (codes "a") ∷ []) ∷ []) ≡ (Failure, reached 0 ∷ reached 1 ∷ reached 3 ∷ []) }
     ensures none { outcome_and_trace (NumberExpr (codes "1")) 9 [] ≡ (Unfinished, reached 0 ∷ reached 1 ∷ reached 3 ∷ []) }
 {}
+
+/// A report at the wrong argument is certain. One at the right argument isn't, since some run is left after it.
+pub fn reports_at_the_argument()
+    ensures wrong { Certain (calling_abs (StrExpr (codes "hi"))) at_literal }
+    ensures right { Certain (calling_abs (NumberExpr (codes "1"))) at_literal → ⊥ }
+{
+}

@@ -3,4 +3,5 @@
 #![tactic(auto)]
 
 pub mod examples;
+pub mod forms;
 pub mod laws;
