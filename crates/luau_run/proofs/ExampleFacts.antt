@@ -1,5 +1,5 @@
 -- A report at a wrong argument is certain; one at a right argument isn't.
-use Rattle.std.proofs.Common.{◌≡◌, ℕ, zero, suc, ◌+◌, ◌<◌, Bool, List, [], ◌∷◌, length, refl, sym, subst, arith, codes, slice_get}
+use Rattle.std.proofs.Common.{◌≡◌, ℕ, zero, suc, ◌+◌, List, [], ◌∷◌, length, refl, subst, arith, codes, slice_get}
 use Rattle.luau_values.specs.Value.{Num}
 use Rattle.luau_tree.specs.Tree.{StrExpr, NumberExpr}
 use Rattle.luau_run.specs.Program.{Program}

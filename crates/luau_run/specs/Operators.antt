@@ -20,18 +20,18 @@ is_true _ = true
 
 -- how a value stands to arithmetic
 pub data Sort : Type 0 where
-  IsNumber : Sort
-  IsString : Sort
-  IsOther : Sort
+  NumberSort : Sort
+  StringSort : Sort
+  OtherSort : Sort
   -- nil, a boolean, a function or a table
-  IsWrong : Sort
+  WrongSort : Sort
 
 -- the sort of a value
 abbrev pub sort : Value → Sort
-sort (Num text) = IsNumber
-sort (Str bytes) = IsString
-sort (Other number) = IsOther
-sort _ = IsWrong
+sort (Num text) = NumberSort
+sort (Str bytes) = StringSort
+sort (Other number) = OtherSort
+sort _ = WrongSort
 
 -- any value or a failure, as an operation on an `Other` gives
 unfoldable pub anything : Program → Part Value
@@ -41,32 +41,28 @@ anything program = do
 
 -- arithmetic: two numbers give a number; where a string is among the two it may fail
 abbrev pub arithmetic_of : Program → Sort → Sort → Part Value
-arithmetic_of program IsOther right = anything program
-arithmetic_of program left IsOther = anything program
-arithmetic_of program IsNumber IsNumber = ask (number_or_fail false)
-arithmetic_of program IsNumber IsString = ask (number_or_fail true)
-arithmetic_of program IsString IsNumber = ask (number_or_fail true)
-arithmetic_of program IsString IsString = ask (number_or_fail true)
+arithmetic_of program OtherSort right = anything program
+arithmetic_of program left OtherSort = anything program
+arithmetic_of program NumberSort NumberSort = ask (number_or_fail false)
+arithmetic_of program NumberSort StringSort = ask (number_or_fail true)
+arithmetic_of program StringSort NumberSort = ask (number_or_fail true)
+arithmetic_of program StringSort StringSort = ask (number_or_fail true)
 arithmetic_of program _ _ = fail
 
 -- `..`
 abbrev pub joined : Program → Sort → Sort → Part Value
-joined program IsOther right = anything program
-joined program left IsOther = anything program
-joined program IsWrong right = fail
-joined program left IsWrong = fail
+joined program OtherSort right = anything program
+joined program left OtherSort = anything program
+joined program WrongSort right = fail
+joined program left WrongSort = fail
 joined program left right = ask a_string
-
--- a truth as a value
-abbrev pub says : Bool → Value
-says truth = Truth truth
 
 -- an order of two numbers or of two strings; with an `Other` it may fail
 abbrev pub ordered : Sort → Sort → Part Value
-ordered IsOther right = ask truth_or_fail >>= (λ truth. give (says truth))
-ordered left IsOther = ask truth_or_fail >>= (λ truth. give (says truth))
-ordered IsNumber IsNumber = ask a_truth >>= (λ truth. give (says truth))
-ordered IsString IsString = ask a_truth >>= (λ truth. give (says truth))
+ordered OtherSort right = ask truth_or_fail >>= (λ truth. give (Truth truth))
+ordered left OtherSort = ask truth_or_fail >>= (λ truth. give (Truth truth))
+ordered NumberSort NumberSort = ask a_truth >>= (λ truth. give (Truth truth))
+ordered StringSort StringSort = ask a_truth >>= (λ truth. give (Truth truth))
 ordered _ _ = fail
 
 -- whether two values are equal: of two numbers, of two that are `Other`, and of two closures of one literal the tape says it
@@ -84,8 +80,8 @@ equal _ _ = give false
 -- a binary operation on two values; `and` and `or` are no such operations
 abbrev pub binary : Program → BinOp → Value → Value → Part Value
 binary program Concat left right = joined program (sort left) (sort right)
-binary program Equal left right = equal left right >>= (λ same. give (says same))
-binary program NotEqual left right = equal left right >>= (λ same. give (says (not same)))
+binary program Equal left right = equal left right >>= (λ same. give (Truth same))
+binary program NotEqual left right = equal left right >>= (λ same. give (Truth (not same)))
 binary program Less left right = ordered (sort left) (sort right)
 binary program Greater left right = ordered (sort left) (sort right)
 binary program LessEqual left right = ordered (sort left) (sort right)
@@ -94,10 +90,10 @@ binary program _ left right = arithmetic_of program (sort left) (sort right)
 
 -- unary minus
 abbrev pub negated : Program → Sort → Part Value
-negated program IsNumber = ask (number_or_fail false)
-negated program IsString = ask (number_or_fail true)
-negated program IsOther = anything program
-negated program IsWrong = fail
+negated program NumberSort = ask (number_or_fail false)
+negated program StringSort = ask (number_or_fail true)
+negated program OtherSort = anything program
+negated program WrongSort = fail
 
 -- `#`
 abbrev pub length_of : Program → Value → Part Value
@@ -109,7 +105,7 @@ length_of program _ = fail
 -- a unary operation on a value
 abbrev pub unary : Program → UnOp → Value → Part Value
 unary program Minus value = negated program (sort value)
-unary program Not value = give (says (not (is_true value)))
+unary program Not value = give (Truth (not (is_true value)))
 unary program Length value = length_of program value
 
 -- the builtin `string.NAME` where it is declared, and else nil

@@ -10,7 +10,7 @@ use Rattle.luau_run.specs.Program.{Use, UseLocal, Program}
 use Rattle.luau_run.specs.Machine.{Reach, Part, ◌>>=◌, ◌>>◌, give, fail, spend, step, log, look, ask, new_cell, set_cell, bind_local}
 use Rattle.luau_run.specs.Answers.{yes_or_fail, a_value}
 use Rattle.luau_run.specs.Layer.{Frame, Ending, Falls, Breaks, Continues, Returns, WhileLoop, RepeatLoop, NumLoop, FunctionLoop, TableLoop, OtherLoop, Layer, first}
-use Rattle.luau_run.specs.Operators.{is_true, binary, named_field, element, set_field, Sort, IsNumber, IsWrong, sort}
+use Rattle.luau_run.specs.Operators.{is_true, binary, named_field, element, set_field, Sort, NumberSort, WrongSort, sort}
 use Rattle.luau_run.specs.Calls.{block, after_first}
 use Rattle.luau_run.specs.Expressions.{is_library, value, all_values, local_cell, local_value, make_closure}
 use Rattle.luau_run.specs.Loops.{declare}
@@ -99,7 +99,7 @@ branches layer frame (more_arms cond body rest) last = do
   if is_true c then block layer frame body else branches layer frame rest last
 
 abbrev pub is_wrong_sort : Sort → Bool
-is_wrong_sort IsWrong = true
+is_wrong_sort WrongSort = true
 is_wrong_sort _ = false
 
 -- a numeric `for` begins: a bound that is nil, a boolean, a function or a table fails; one that is a string or
@@ -108,7 +108,7 @@ abbrev pub is_wrong : Value → Bool
 is_wrong v = is_wrong_sort (sort v)
 
 abbrev pub is_number_sort : Sort → Bool
-is_number_sort IsNumber = true
+is_number_sort NumberSort = true
 is_number_sort _ = false
 
 abbrev pub is_number : Value → Bool

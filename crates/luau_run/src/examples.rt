@@ -27,5 +27,4 @@ pub fn right_argument()
 pub fn reports_at_the_argument()
     ensures wrong { Certain (calling_abs (StrExpr (codes "hi"))) at_literal }
     ensures right { Certain (calling_abs (NumberExpr (codes "1"))) at_literal → ⊥ }
-{
-}
+{}

@@ -18,22 +18,17 @@ pub fn modules_that_return()
     ensures no_turns { gives counted 50 (Stop ∷ []) ≡ Some (Nil ∷ []) }
     ensures break_ends { gives broken_off 50 [] ≡ Some (Num (codes "1") ∷ []) }
     ensures other_module { gives required 50 [] ≡ Some (Str (codes "x") ∷ []) }
-{
-}
+{}
 
 /// A failure that `pcall` catches: the function's activation reaches its call and isn't left; the module's own is.
 pub fn failure_that_is_caught()
-    ensures {
-        trace caught_failure 0 50 (Does (Catches (Lit 1 0 []) []) ∷ Done [] ∷ [])
+    ensures { trace caught_failure 0 50 (Does (Catches (Lit 1 0 []) []) ∷ Done [] ∷ [])
         ≡ Reach 0 0 (ExprPlace (record { 0 = 0 })) ∷ Reach 0 0 (ExprPlace (record { 0 = 1 })) ∷ Reach 0 0 (ExprPlace (record { 0 = 2 }))
         ∷ Reach 1 0 (ExprPlace (record { 0 = 3 })) ∷ Reach 1 0 (ExprPlace (record { 0 = 4 })) ∷ Reach 1 0 (ExprPlace (record { 0 = 6 }))
-        ∷ Leave 0 ∷ []
-    }
-{
-}
+        ∷ Leave 0 ∷ [] }
+{}
 
 /// What fails for certain asks for no answer.
 pub fn modules_that_fail()
     ensures { map (λ program. outcome (run program 0 50 [])) failing ≡ Failure ∷ Failure ∷ Failure ∷ Failure ∷ Failure ∷ Failure ∷ Failure ∷ [] }
-{
-}
+{}
