@@ -1,1 +1,3 @@
 pub mod Position
+pub mod Tree
+pub mod View

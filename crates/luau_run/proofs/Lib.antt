@@ -1,0 +1,12 @@
+pub mod AfterFacts
+pub mod Good
+pub mod GoodActivation
+pub mod GoodOperators
+pub mod GoodLayer
+pub mod GoodCalls
+pub mod GoodExpressions
+pub mod GoodLoops
+pub mod GoodStatements
+pub mod GoodLayers
+pub mod CallFacts
+pub mod ExampleFacts

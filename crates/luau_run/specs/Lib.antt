@@ -1,0 +1,14 @@
+pub mod Program
+pub mod Machine
+pub mod Answers
+pub mod Layer
+pub mod Operators
+pub mod Calls
+pub mod Expressions
+pub mod Loops
+pub mod Statements
+pub mod Run
+pub mod Certain
+pub mod After
+pub mod Examples
+pub mod Forms

@@ -1,0 +1,34 @@
+//! Runs of further forms of syntax that are computed.
+
+ghost use Rattle.std.specs.Prelude.{◌≡◌, [], ◌∷◌, Some, codes, map};
+ghost use Rattle.luau_values.specs.Value.{Nil, Num, Str, Lit};
+ghost use Rattle.luau_tree.specs.Tree.{NilExpr, StrExpr};
+ghost use Rattle.luau_tree.specs.declared.names.Place.TheVariants.{Expr as ExprPlace};
+ghost use Rattle.luau_run.specs.Machine.{Turn, Stop, Does, Catches, Done, Reach, Leave};
+ghost use Rattle.luau_run.specs.Examples.{Failure, outcome};
+ghost use Rattle.luau_run.specs.Run.{run, trace};
+ghost use Rattle.luau_run.specs.Forms.{gives, assigned_by_closure, field_written, counted, broken_off, required, caught_failure, failing};
+
+/// What modules return, with enough steps and the answers that they ask for.
+pub fn modules_that_return()
+    ensures closure { gives assigned_by_closure 50 [] ≡ Some (Str (codes "s") ∷ []) }
+    ensures field { gives (field_written (StrExpr (codes "v"))) 50 [] ≡ Some (Str (codes "v") ∷ []) }
+    ensures nil_field { gives (field_written NilExpr) 50 [] ≡ Some (Nil ∷ []) }
+    ensures turns { gives counted 50 (Turn (Num (codes "7") ∷ []) ∷ Stop ∷ []) ≡ Some (Num (codes "7") ∷ []) }
+    ensures no_turns { gives counted 50 (Stop ∷ []) ≡ Some (Nil ∷ []) }
+    ensures break_ends { gives broken_off 50 [] ≡ Some (Num (codes "1") ∷ []) }
+    ensures other_module { gives required 50 [] ≡ Some (Str (codes "x") ∷ []) }
+{}
+
+/// A failure that `pcall` catches: the function's activation reaches its call and isn't left; the module's own is.
+pub fn failure_that_is_caught()
+    ensures { trace caught_failure 0 50 (Does (Catches (Lit 1 0 []) []) ∷ Done [] ∷ [])
+        ≡ Reach 0 0 (ExprPlace (record { 0 = 0 })) ∷ Reach 0 0 (ExprPlace (record { 0 = 1 })) ∷ Reach 0 0 (ExprPlace (record { 0 = 2 }))
+        ∷ Reach 1 0 (ExprPlace (record { 0 = 3 })) ∷ Reach 1 0 (ExprPlace (record { 0 = 4 })) ∷ Reach 1 0 (ExprPlace (record { 0 = 6 }))
+        ∷ Leave 0 ∷ [] }
+{}
+
+/// What fails for certain asks for no answer.
+pub fn modules_that_fail()
+    ensures { map (λ program. outcome (run program 0 50 [])) failing ≡ Failure ∷ Failure ∷ Failure ∷ Failure ∷ Failure ∷ Failure ∷ Failure ∷ [] }
+{}

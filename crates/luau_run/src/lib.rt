@@ -1,0 +1,7 @@
+//! What a run of Luau modules is, and that reports are certain: a part of the code that is reported is left only by a
+//! run-time error. There is no program here: these are definitions, with laws.
+#![tactic(auto)]
+
+pub mod examples;
+pub mod forms;
+pub mod laws;

@@ -1,0 +1,2 @@
+pub mod HeapFacts
+pub mod StartFacts

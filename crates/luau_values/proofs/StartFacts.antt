@@ -1,0 +1,79 @@
+-- Facts on the heap at the start of a run.
+use Rattle.std.proofs.Common.{◌≡◌, ◌≢◌, ℕ, zero, suc, ◌<◌, Bool, true, false, ◌==◌, List, [], ◌∷◌, ◌++◌, map, length, slice_get, Option, Some, None, refl, sym, ◌∙◌, ap, subst, arith, true≢false, append_assoc, if◌then◌else◌}
+use Rattle.std.specs.List.{list_any}
+use Rattle.std.specs.Str.{bytes_eq}
+use Rattle.std.proofs.lemmas.Slice.Eq.{bytes_eq-Decides}
+use Rattle.std.proofs.lemmas.Bool.{eq-eqb, eqb-true}
+use Rattle.luau_values.specs.Value.{Value, Nil, Builtin}
+use Rattle.luau_values.specs.Heap.{Field, Table, value_of, is_frozen, field_of, after_prefix, library_fields, libraries, start_heap}
+use Rattle.luau_values.proofs.HeapFacts.{same_name, other_name}
+
+all_frozen : (fields : List ℕ → List Field) (libs : List (List ℕ)) (a : ℕ) → a < length libs
+    → is_frozen (map (λ l. record { frozen = true; fields = fields l }) libs) a ≡ true
+all_frozen fields [] a l = absurd (omega arith)
+all_frozen fields (x ∷ libs) zero l = refl
+all_frozen fields (x ∷ libs) (suc a) l = all_frozen fields libs a (omega arith)
+
+table_of : (fields : List ℕ → List Field) (libs : List (List ℕ)) (a : ℕ) (l name : List ℕ) → slice_get libs a ≡ Some l
+    → field_of (map (λ l. record { frozen = true; fields = fields l }) libs) a name ≡ value_of name (fields l)
+table_of fields [] a l name e = cc
+table_of fields (x ∷ libs) zero l name e = let k : x ≡ l = cc in ap (λ (y : List ℕ). value_of name (fields y)) k
+table_of fields (x ∷ libs) (suc a) l name e = table_of fields libs a l name e
+
+map_length : (f : List ℕ → Table) (libs : List (List ℕ)) → length (map f libs) ≡ length libs
+map_length f [] = refl
+map_length f (x ∷ libs) = ap suc (map_length f libs)
+
+follows_own : (p t : List ℕ) → after_prefix p (p ++ t) ≡ Some t
+follows_own [] t = refl
+follows_own (x ∷ p) t = rw (eq-eqb x x refl) (follows_own p t)
+
+follows_step : (x c : ℕ) (p t n : List ℕ) (b : Bool) → (x == c) ≡ b → (after_prefix p t ≡ Some n → t ≡ p ++ n)
+    → after_prefix (x ∷ p) (c ∷ t) ≡ Some n → c ∷ t ≡ x ∷ (p ++ n)
+follows_step x c p t n true e ih h =
+    let k : x ≡ c = eqb-true x c e in let m : t ≡ p ++ n = ih (rw e at h) in cc
+follows_step x c p t n false e ih h = let k : None ≡ Some n = rw e at h in cc
+
+follows : (p t n : List ℕ) → after_prefix p t ≡ Some n → t ≡ p ++ n
+follows [] t n h = cc
+follows (x ∷ p) [] n h = cc
+follows (x ∷ p) (c ∷ t) n h = follows_step x c p t n (x == c) refl (follows p t n) h
+
+-- what a list of paths gives a library at a name
+abbrev declared : List (List ℕ) → List ℕ → List ℕ → Value
+declared paths l name = if list_any (bytes_eq (l ++ 46 ∷ name)) paths then Builtin (l ++ 46 ∷ name) else Nil
+
+-- one path more: it is this library's field of this name, another field of it, or none of its fields
+one_more : (l name path : List ℕ) (paths : List (List ℕ)) (o : Option (List ℕ)) (b : Bool) → after_prefix (l ++ 46 ∷ []) path ≡ o → bytes_eq (l ++ 46 ∷ name) path ≡ b
+    → value_of name (library_fields l paths) ≡ declared paths l name → value_of name (library_fields l (path ∷ paths)) ≡ declared (path ∷ paths) l name
+one_more l name path paths None true e d ih =
+    let k : l ++ 46 ∷ name ≡ path = (bytes_eq-Decides (l ++ 46 ∷ name) path).0 d in
+    let m : after_prefix (l ++ 46 ∷ []) ((l ++ 46 ∷ []) ++ name) ≡ Some name = follows_own (l ++ 46 ∷ []) name in
+    let n : (l ++ 46 ∷ []) ++ name ≡ path = append_assoc l (46 ∷ []) name ∙ k in
+    let q : None ≡ Some name = sym e ∙ subst (λ (t : List ℕ). after_prefix (l ++ 46 ∷ []) t ≡ Some name) n m in
+    cc
+one_more l name path paths None false e d ih = rw (e, d) ih
+one_more l name path paths (Some rest) true e d ih =
+    let k : l ++ 46 ∷ name ≡ path = (bytes_eq-Decides (l ++ 46 ∷ name) path).0 d in
+    let m : after_prefix (l ++ 46 ∷ []) ((l ++ 46 ∷ []) ++ name) ≡ Some name = follows_own (l ++ 46 ∷ []) name in
+    let n : (l ++ 46 ∷ []) ++ name ≡ path = append_assoc l (46 ∷ []) name ∙ k in
+    let q : Some rest ≡ Some name = sym e ∙ subst (λ (t : List ℕ). after_prefix (l ++ 46 ∷ []) t ≡ Some name) n m in
+    let r : rest ≡ name = cc in
+    rw (e, d) (rw (same_name rest name r) (ap Builtin (sym k)))
+one_more l name path paths (Some rest) false e d ih =
+    let k : path ≡ (l ++ 46 ∷ []) ++ rest = follows (l ++ 46 ∷ []) path rest e in
+    let ne : rest ≢ name = λ r. absurd (true≢false (sym (same_name (l ++ 46 ∷ name) path (ap (λ (t : List ℕ). l ++ 46 ∷ t) (sym r) ∙ sym (k ∙ append_assoc l (46 ∷ []) rest))) ∙ d)) in
+    rw (e, d) (rw (other_name rest name ne) ih)
+
+fields_declared : (l name : List ℕ) (paths : List (List ℕ)) → value_of name (library_fields l paths) ≡ declared paths l name
+fields_declared l name [] = refl
+fields_declared l name (path ∷ paths) =
+    one_more l name path paths (after_prefix (l ++ 46 ∷ []) path) (bytes_eq (l ++ 46 ∷ name) path) refl refl (fields_declared l name paths)
+
+pub start_frozen : (paths : List (List ℕ)) (a : ℕ) → a < length (start_heap paths) → is_frozen (start_heap paths) a ≡ true
+start_frozen paths a l =
+    all_frozen (λ k. library_fields k paths) (libraries paths) a (subst (λ (n : ℕ). a < n) (map_length (λ k. record { frozen = true; fields = library_fields k paths }) (libraries paths)) l)
+
+pub start_fields : (paths : List (List ℕ)) (a : ℕ) (l name : List ℕ) → slice_get (libraries paths) a ≡ Some l
+    → field_of (start_heap paths) a name ≡ (if list_any (bytes_eq (l ++ 46 ∷ name)) paths then Builtin (l ++ 46 ∷ name) else Nil)
+start_fields paths a l name e = table_of (λ k. library_fields k paths) (libraries paths) a l name e ∙ fields_declared l name paths

@@ -1,0 +1,88 @@
+//! What holds of all heaps. Each law is the contract of a function that does nothing.
+
+ghost use Rattle.std.specs.Prelude.{◌≡◌, ◌≢◌, ℕ, ◌<◌, ◌≤◌, ◌++◌, ◌∷◌, [], List, length, slice_get, IsTrue, IsFalse, Some, true, codes, if◌then◌else◌};
+ghost use Rattle.std.specs.List.{list_any};
+ghost use Rattle.std.specs.Str.{bytes_eq};
+ghost use Rattle.luau_values.specs.Value.{Value, Nil, Builtin};
+ghost use Rattle.luau_values.specs.Heap.{Field, Heap, is_frozen, field_of, value_of, with_table, with_field, with_frozen, start_heap, libraries};
+ghost use Rattle.luau_values.specs.Later.{Later, Extends};
+
+/// A heap is later than itself.
+#[tactic(auto, using(crate::proofs::HeapFacts::later_refl))]
+pub fn later_reflexive()
+    ensures { (h : Heap) → Later h h }
+{}
+
+/// What is later than a later heap is later.
+#[tactic(auto, using(crate::proofs::HeapFacts::later_trans))]
+pub fn later_transitive()
+    ensures { (h g k : Heap) → Later h g → Later g k → Later h k }
+{}
+
+/// A frozen table stays what it is: its mark and all of its fields.
+#[tactic(auto, using(crate::proofs::HeapFacts::stays))]
+pub fn frozen_table_stays()
+    ensures { (h g : Heap) (a : ℕ) → Later h g → IsTrue (is_frozen h a) → slice_get g a ≡ slice_get h a }
+{}
+
+/// No table is ever gone.
+#[tactic(auto, using(crate::proofs::HeapFacts::no_fewer))]
+pub fn tables_stay()
+    ensures { (h g : Heap) → Later h g → length h ≤ length g }
+{}
+
+/// A new table leaves all others as they are.
+#[tactic(auto, using(crate::proofs::HeapFacts::table_later))]
+pub fn new_table_later()
+    ensures { (h : Heap) (fields : List Field) → Later h (with_table fields h) }
+{}
+
+/// A write to a table that isn't frozen leaves all others as they are.
+#[tactic(auto, using(crate::proofs::HeapFacts::write_later))]
+pub fn write_later()
+    ensures { (h : Heap) (a : ℕ) (name : List ℕ) (value : Value) → IsFalse (is_frozen h a) → Later h (with_field a name value h) }
+{}
+
+/// Freezing leaves all frozen tables as they are.
+#[tactic(auto, using(crate::proofs::HeapFacts::freeze_later))]
+pub fn freeze_later()
+    ensures { (h : Heap) (a : ℕ) → Later h (with_frozen a h) }
+{}
+
+/// What only adds tables is later.
+#[tactic(auto, using(crate::proofs::HeapFacts::extends_later))]
+pub fn extends_later()
+    ensures { (h g : Heap) → Extends h g → Later h g }
+{}
+
+/// From where a quiet call begins, a heap only gets more tables: by new ones, and by writes to these.
+#[tactic(auto, using(crate::proofs::HeapFacts::extends_refl, crate::proofs::HeapFacts::extends_table, crate::proofs::HeapFacts::extends_changed))]
+pub fn quiet_changes_extend()
+    ensures begins { (h : Heap) → Extends h h }
+    ensures makes { (h g : Heap) (fields : List Field) → Extends h g → Extends h (with_table fields g) }
+    ensures fills { (h g : Heap) (a : ℕ) (name : List ℕ) (value : Value) → Extends h g → length h ≤ a → Extends h (with_field a name value g) }
+{}
+
+/// A field that is written reads as what was written, and every other field as before.
+#[tactic(auto, using(crate::proofs::HeapFacts::write_reads, crate::proofs::HeapFacts::write_leaves, crate::proofs::HeapFacts::write_elsewhere))]
+pub fn fields_after_write()
+    ensures own { (h : Heap) (a : ℕ) (name : List ℕ) (value : Value) → a < length h → field_of (with_field a name value h) a name ≡ value }
+    ensures others { (h : Heap) (a : ℕ) (name other : List ℕ) (value : Value) → name ≢ other → field_of (with_field a name value h) a other ≡ field_of h a other }
+    ensures elsewhere { (h : Heap) (a b : ℕ) (name : List ℕ) (value : Value) → a ≢ b → slice_get (with_field a name value h) b ≡ slice_get h b }
+{}
+
+/// At the start each table is a library's: it is frozen, and its fields are the library's declared builtins.
+#[tactic(auto, using(crate::proofs::StartFacts::start_frozen, crate::proofs::StartFacts::start_fields))]
+pub fn tables_at_start()
+    ensures frozen { (paths : List (List ℕ)) (a : ℕ) → a < length (start_heap paths) → IsTrue (is_frozen (start_heap paths) a) }
+    ensures fields { (paths : List (List ℕ)) (a : ℕ) (library name : List ℕ) → slice_get (libraries paths) a ≡ Some library
+        → field_of (start_heap paths) a name ≡ (if list_any (bytes_eq (library ++ 46 ∷ name)) paths then Builtin (library ++ 46 ∷ name) else Nil) }
+{}
+
+/// The heap at the start of a run over `math.abs`, `math.pi`, `print` and `string.len`.
+pub fn example_of_start()
+    ensures { start_heap (codes "math.abs" ∷ codes "math.pi" ∷ codes "print" ∷ codes "string.len" ∷ [])
+        ≡ record { frozen = true; fields = record { name = codes "abs"; value = Builtin (codes "math.abs") } ∷ record { name = codes "pi"; value = Builtin (codes "math.pi") } ∷ [] }
+        ∷ record { frozen = true; fields = record { name = codes "len"; value = Builtin (codes "string.len") } ∷ [] }
+        ∷ [] }
+{}
