@@ -1,0 +1,9 @@
+//! Types as interned nodes: a node names its parts by references, equal nodes of one arena have one reference, and a
+//! reference keeps its meaning for as long as the arenas that it reaches are kept.
+#![tactic(auto)]
+
+mod containers;
+mod node;
+
+pub use containers::{Label, List, Text};
+pub use node::{Among, FnName, Node, Row, TypeRef};
