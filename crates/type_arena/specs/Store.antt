@@ -1,0 +1,61 @@
+-- Nodes in several arenas: which reference has which node, and which references are older than which.
+use Rattle.std.specs.Prelude.{◌≡◌, ℕ, ◌<◌, Bool, ◌==◌, nat_lt, ◌&&◌, ◌||◌, List, [], ◌∷◌, ◌++◌, Option, Some, is_some, slice_get, All, IsTrue, if◌then◌else◌}
+use Rattle.type_arena.specs.declared.node.Node.{Node}
+use Rattle.type_arena.specs.declared.node.Row.{Row}
+use Rattle.type_arena.specs.declared.node.TypeRef.{TypeRef}
+
+-- the nodes of one arena in the order of their ids, with the arena's home
+pub record Holding : Type 0 where
+  pub home : ℕ
+  pub nodes : List Node
+
+-- several arenas
+abbrev pub Store : Type 0
+Store = List Holding
+
+-- the nodes of the arena with this home
+abbrev pub nodes_at : Store → ℕ → List Node
+nodes_at [] home = []
+nodes_at (arena ∷ arenas) home = if arena.home == home then arena.nodes else nodes_at arenas home
+
+-- the node of a reference, if it is there
+abbrev pub node_at : Store → TypeRef → Option Node
+node_at store at = slice_get (nodes_at store at.home) at.id
+
+-- whether a reference has a node
+abbrev pub has : Store → TypeRef → Bool
+has store at = is_some (node_at store at)
+
+-- the types of the fields, in their order
+abbrev pub field_types : List (List ℕ × TypeRef) → List TypeRef
+field_types [] = []
+field_types (field ∷ fields) = field.1 ∷ field_types fields
+
+abbrev pub row_types : List Row → List TypeRef
+row_types [] = []
+row_types (row ∷ rows) = field_types row.fields ++ row_types rows
+
+-- the references in a node
+abbrev pub refs_of : Node → List TypeRef
+refs_of node = row_types node.rows
+
+-- whether a reference comes before another one: it has a lower home, or the same home and a lower id
+abbrev pub is_older : TypeRef → TypeRef → Bool
+is_older a b = nat_lt a.home b.home || (a.home == b.home && nat_lt a.id b.id)
+
+-- the references in each node of an arena are older than the node
+abbrev pub IsOrdered : Holding → Type 0
+IsOrdered arena = (id : ℕ) (node : Node) → slice_get arena.nodes id ≡ Some node → All (λ child. IsTrue (is_older child (record { home = arena.home; id = id }))) (refs_of node)
+
+-- each reference in a node that is there is there too, and older
+pub record IsSound (store : Store) : Type 0 where
+  pub there : (at : TypeRef) (node : Node) → node_at store at ≡ Some node → All (λ child. IsTrue (has store child)) (refs_of node)
+  pub older : (at : TypeRef) (node : Node) → node_at store at ≡ Some node → All (λ child. IsTrue (is_older child at)) (refs_of node)
+
+-- the arena at each position has that position as its home
+abbrev pub IsPlaced : Store → Type 0
+IsPlaced store = (home : ℕ) (arena : Holding) → slice_get store home ≡ Some arena → arena.home ≡ home
+
+-- each node of the one is at the same reference in the other
+abbrev pub Keeps : Store → Store → Type 0
+Keeps old new = (at : TypeRef) (node : Node) → node_at old at ≡ Some node → node_at new at ≡ Some node
