@@ -1,3 +1,5 @@
+pub mod Clones
+pub mod Frozen
 pub mod Homes
 pub mod Meaning
 pub mod Store

@@ -43,14 +43,20 @@ refs_of node = row_types node.rows
 abbrev pub is_older : TypeRef → TypeRef → Bool
 is_older a b = nat_lt a.home b.home || (a.home == b.home && nat_lt a.id b.id)
 
--- the references in each node of an arena are older than the node
-abbrev pub IsOrdered : Holding → Type 0
-IsOrdered arena = (id : ℕ) (node : Node) → slice_get arena.nodes id ≡ Some node → All (λ child. IsTrue (is_older child (record { home = arena.home; id = id }))) (refs_of node)
+-- the nodes of an arena are each there once, and the references in each are older than the node
+pub record IsOrdered (home : ℕ) (nodes : List Node) : Type 0 where
+  pub older : (id : ℕ) (node : Node) → slice_get nodes id ≡ Some node → All (λ child. IsTrue (is_older child (record { home = home; id = id }))) (refs_of node)
+  pub once : (id other : ℕ) (node : Node) → slice_get nodes id ≡ Some node → slice_get nodes other ≡ Some node → id ≡ other
 
--- each reference in a node that is there is there too, and older
+-- each reference in a node that is there is there too
+abbrev pub IsClosed : Store → Type 0
+IsClosed store = (at : TypeRef) (node : Node) → node_at store at ≡ Some node → All (λ child. IsTrue (has store child)) (refs_of node)
+
+-- each reference in a node that is there is there too, and older, and equal nodes of one arena have one reference
 pub record IsSound (store : Store) : Type 0 where
-  pub there : (at : TypeRef) (node : Node) → node_at store at ≡ Some node → All (λ child. IsTrue (has store child)) (refs_of node)
+  pub there : IsClosed store
   pub older : (at : TypeRef) (node : Node) → node_at store at ≡ Some node → All (λ child. IsTrue (is_older child at)) (refs_of node)
+  pub once : (at other : TypeRef) (node : Node) → node_at store at ≡ Some node → node_at store other ≡ Some node → at.home ≡ other.home → at ≡ other
 
 -- the arena at each position has that position as its home
 abbrev pub IsPlaced : Store → Type 0

@@ -3,7 +3,9 @@
 #![tactic(auto)]
 
 mod containers;
+mod frozen;
 mod node;
 
 pub use containers::{Label, List, Text};
+pub use frozen::Frozen;
 pub use node::{Among, FnName, Node, Row, TypeRef};
