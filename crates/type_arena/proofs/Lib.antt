@@ -1,3 +1,4 @@
 pub mod StoreLemmas
 pub mod MeaningLemmas
 pub mod CloneLemmas
+pub mod ShelfLemmas

@@ -1,5 +1,5 @@
 -- Lemmas on which reference has which node.
-use Rattle.std.proofs.Common.{◌≡◌, ℕ, ◌+◌, ◌<◌, ◌≤◌, List, [], ◌∷◌, ◌++◌, length, refl, ap, sym, ◌∙◌, arith, Bool, true, false}
+use Rattle.std.proofs.Common.{◌≡◌, ℕ, zero, suc, ◌+◌, ◌<◌, ◌≤◌, List, [], ◌∷◌, ◌++◌, length, refl, ap, sym, ◌∙◌, arith, Bool, true, false}
 use Rattle.std.specs.Prelude.{Option, Some, None, is_some, slice_get, All, IsTrue, nat_lt, ◌==◌, ◌||◌, ◌&&◌}
 use Rattle.std.proofs.lemmas.Grind.{common_steps}
 use Rattle.std.proofs.lemmas.Option.{slice_get_within}
@@ -8,6 +8,13 @@ use Rattle.type_arena.specs.Store.{Holding, Store, nodes_at, node_at, has, refs_
 use Rattle.type_arena.specs.Meaning.{nodes_below, rank}
 use Rattle.type_arena.specs.declared.node.Node.{Node}
 use Rattle.type_arena.specs.declared.node.TypeRef.{TypeRef}
+
+-- an index is there where it is below the length
+pub is_some-slice_get : {X : Type 0} (xs : List X) (i : ℕ) → is_some (slice_get xs i) ≡ nat_lt i (length xs)
+is_some-slice_get [] zero = grind (arith, nat_tests)
+is_some-slice_get [] (suc i) = grind (arith, nat_tests)
+is_some-slice_get (x ∷ xs) zero = grind (arith, nat_tests)
+is_some-slice_get (x ∷ xs) (suc i) = is_some-slice_get xs i ∙ grind (arith, nat_tests)
 
 -- more nodes have a home below a higher one
 pub nodes_below-le : (store : Store) (low high : ℕ) → low ≤ high → nodes_below store low ≤ nodes_below store high

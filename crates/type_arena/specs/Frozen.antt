@@ -1,5 +1,5 @@
 -- Frozen arenas, seen as their homes and nodes.
-use Rattle.std.specs.Prelude.{List, [], ◌∷◌}
+use Rattle.std.specs.Prelude.{List, map}
 use Rattle.type_arena.specs.Store.{Holding, Store}
 use Rattle.type_arena.specs.declared.frozen.Frozen.{Frozen}
 
@@ -9,5 +9,4 @@ holding_of arena = record { home = arena.home; nodes = arena.nodes.keys }
 
 -- several frozen arenas
 abbrev pub holdings_of : List Frozen → Store
-holdings_of [] = []
-holdings_of (arena ∷ arenas) = holding_of arena ∷ holdings_of arenas
+holdings_of arenas = map holding_of arenas

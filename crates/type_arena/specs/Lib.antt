@@ -2,5 +2,6 @@ pub mod Clones
 pub mod Frozen
 pub mod Homes
 pub mod Meaning
+pub mod Shelf
 pub mod Store
 pub mod Term

@@ -1,5 +1,5 @@
 -- Nodes in several arenas: which reference has which node, and which references are older than which.
-use Rattle.std.specs.Prelude.{◌≡◌, ℕ, ◌<◌, Bool, ◌==◌, nat_lt, ◌&&◌, ◌||◌, List, [], ◌∷◌, ◌++◌, Option, Some, is_some, slice_get, All, IsTrue, if◌then◌else◌}
+use Rattle.std.specs.Prelude.{◌≡◌, ℕ, ◌<◌, Bool, ◌==◌, nat_lt, ◌&&◌, ◌||◌, List, [], ◌∷◌, ◌++◌, length, Option, Some, is_some, slice_get, All, IsTrue, if◌then◌else◌}
 use Rattle.type_arena.specs.declared.node.Node.{Node}
 use Rattle.type_arena.specs.declared.node.Row.{Row}
 use Rattle.type_arena.specs.declared.node.TypeRef.{TypeRef}
@@ -65,3 +65,8 @@ IsPlaced store = (home : ℕ) (arena : Holding) → slice_get store home ≡ Som
 -- each node of the one is at the same reference in the other
 abbrev pub Keeps : Store → Store → Type 0
 Keeps old new = (at : TypeRef) (node : Node) → node_at old at ≡ Some node → node_at new at ≡ Some node
+
+-- a node that is interned gets the id of an equal node, or goes last
+pub data Interned (old new : List Node) (node : Node) (id : ℕ) : Type 0 where
+  found : slice_get old id ≡ Some node → new ≡ old → Interned old new node id
+  added : ((other : ℕ) → slice_get old other ≡ Some node → ⊥) → id ≡ length old → new ≡ old ++ node ∷ [] → Interned old new node id

@@ -1,4 +1,3 @@
-ghost use Rattle.std.specs.Prelude.{◌≡◌, IfOk};
 ghost use Rattle.std.proofs.Props.{props};
 ghost use Rattle.type_arena.specs.Store.{IsOrdered};
 
@@ -15,8 +14,23 @@ pub struct Frozen {
 }
 
 impl Frozen {
-    ghost use Rattle.std.specs.Prelude.{◌≡◌, IfOk};
+    ghost use Rattle.std.specs.Prelude.{◌≡◌, ◌<◌, IfOk, length, slice_get};
     ghost use Rattle.type_arena.specs.Frozen.{holding_of};
+
+    /// How many nodes it has.
+    pub(crate) fn len(&self) -> u64
+        ensures { result ≡ length (holding_of self.now).nodes }
+    {
+        self.nodes.len() as u64
+    }
+
+    /// The node with this id.
+    pub(crate) fn at(&self, id: u64) -> &Node
+        requires { id < length (holding_of self.now).nodes }
+        ensures { slice_get (holding_of self.now).nodes id ≡ Some result.now }
+    {
+        &self.nodes.as_slice()[id as usize]
+    }
 
     /// An arena of the same home, with the same nodes at the same references.
     #[tactic(auto, using(crate::proofs::CloneLemmas::same_items))]

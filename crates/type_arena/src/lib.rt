@@ -5,7 +5,11 @@
 mod containers;
 mod frozen;
 mod node;
+mod nodes;
+mod shelves;
 
 pub use containers::{Label, List, Text};
 pub use frozen::Frozen;
 pub use node::{Among, FnName, Node, Row, TypeRef};
+pub use nodes::Nodes;
+pub use shelves::Shelf;
