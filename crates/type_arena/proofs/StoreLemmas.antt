@@ -16,6 +16,14 @@ is_some-slice_get [] (suc i) = grind (arith, nat_tests)
 is_some-slice_get (x ∷ xs) zero = grind (arith, nat_tests)
 is_some-slice_get (x ∷ xs) (suc i) = is_some-slice_get xs i ∙ grind (arith, nat_tests)
 
+-- the reference with this home and this id
+abbrev pub ref_of : ℕ → ℕ → TypeRef
+ref_of home id = record { home = home; id = id }
+
+-- references with one home and one id are one
+pub same_ref : (a b : TypeRef) → a.home ≡ b.home → a.id ≡ b.id → a ≡ b
+same_ref a b home id = ap (λ (h : ℕ). ref_of h a.id) home ∙ ap (ref_of b.home) id
+
 -- more nodes have a home below a higher one
 pub nodes_below-le : (store : Store) (low high : ℕ) → low ≤ high → nodes_below store low ≤ nodes_below store high
 nodes_below-le [] low high h = omega arith

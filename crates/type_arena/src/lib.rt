@@ -7,9 +7,11 @@ mod frozen;
 mod node;
 mod nodes;
 mod shelves;
+mod shelving;
 
 pub use containers::{Label, List, Text};
 pub use frozen::Frozen;
 pub use node::{Among, FnName, Node, Row, TypeRef};
 pub use nodes::Nodes;
 pub use shelves::Shelf;
+pub use shelving::shelf;

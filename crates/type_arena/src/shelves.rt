@@ -9,7 +9,7 @@ use crate::nodes::Nodes;
 
 /// Frozen arenas in a row, each at the position that is its home. A shelf borrows them and copies nothing.
 pub struct Shelf<'a> {
-    frozen: &'a [Frozen],
+    pub(crate) frozen: &'a [Frozen],
     ghost placed: { IsPlaced (holdings_of frozen.now) } by { Prim.hlevel props },
     ghost sound: { IsSound (holdings_of frozen.now) } by { Prim.hlevel props },
 }
