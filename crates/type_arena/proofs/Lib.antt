@@ -2,3 +2,4 @@ pub mod StoreLemmas
 pub mod MeaningLemmas
 pub mod CloneLemmas
 pub mod ShelfLemmas
+pub mod EqLemmas
