@@ -3,3 +3,4 @@ pub mod MeaningLemmas
 pub mod CloneLemmas
 pub mod ShelfLemmas
 pub mod EqLemmas
+pub mod ArenaLemmas

@@ -62,6 +62,10 @@ pub record IsSound (store : Store) : Type 0 where
 abbrev pub IsPlaced : Store → Type 0
 IsPlaced store = (home : ℕ) (arena : Holding) → slice_get store home ≡ Some arena → arena.home ≡ home
 
+-- arenas, with one more above them
+abbrev pub with_own : Store → ℕ → List Node → Store
+with_own below home nodes = below ++ (record { home = home; nodes = nodes }) ∷ []
+
 -- each node of the one is at the same reference in the other
 abbrev pub Keeps : Store → Store → Type 0
 Keeps old new = (at : TypeRef) (node : Node) → node_at old at ≡ Some node → node_at new at ≡ Some node
