@@ -4,3 +4,4 @@ pub mod CloneLemmas
 pub mod ShelfLemmas
 pub mod EqLemmas
 pub mod ArenaLemmas
+pub mod InternLemmas

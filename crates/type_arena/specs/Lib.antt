@@ -1,3 +1,4 @@
+pub mod Arena
 pub mod Clones
 pub mod Frozen
 pub mod Homes

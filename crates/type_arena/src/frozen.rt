@@ -2,6 +2,7 @@ ghost use Rattle.std.proofs.Props.{props};
 ghost use Rattle.type_arena.specs.Store.{IsOrdered};
 
 use crate::node::Node;
+use crate::nodes::nth_node;
 use indexmap::IndexSet;
 use std::alloc::{AllocError, Global};
 
@@ -29,7 +30,7 @@ impl Frozen {
         requires { id < length (holding_of self.now).nodes }
         ensures { slice_get (holding_of self.now).nodes id ≡ Some result.now }
     {
-        &self.nodes.as_slice()[id as usize]
+        nth_node(&self.nodes, id)
     }
 
     /// An arena of the same home, with the same nodes at the same references.

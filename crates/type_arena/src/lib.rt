@@ -2,6 +2,7 @@
 //! reference keeps its meaning for as long as the arenas that it reaches are kept.
 #![tactic(auto)]
 
+mod arena;
 mod containers;
 mod frozen;
 mod node;
@@ -9,6 +10,7 @@ mod nodes;
 mod shelves;
 mod shelving;
 
+pub use arena::Arena;
 pub use containers::{Label, List, Text};
 pub use frozen::Frozen;
 pub use node::{Among, FnName, Node, Row, TypeRef};

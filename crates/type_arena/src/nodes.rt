@@ -1,7 +1,8 @@
-ghost use Rattle.std.specs.Prelude.{◌≡◌, Some, IsTrue};
+ghost use Rattle.std.specs.Prelude.{◌≡◌, ◌<◌, Some, IsTrue, length, slice_get};
 ghost use Rattle.type_arena.specs.Store.{Store, node_at, has as has_node, IsSound};
 
 use crate::node::{Node, TypeRef};
+use indexmap::IndexSet;
 
 /// Arenas whose nodes can be read by their references.
 ///
@@ -22,4 +23,12 @@ pub trait Nodes {
 
     /// References are there and older than the nodes that have them, and equal nodes of one arena have one reference.
     ghost sound: { (nodes : Self) → IsSound (arenas nodes) };
+}
+
+// The node with this id among the nodes of one arena.
+pub(crate) fn nth_node(nodes: &IndexSet<Node>, id: u64) -> &Node
+    requires { id < length nodes.now.keys }
+    ensures { slice_get nodes.now.keys id ≡ Some result.now }
+{
+    &nodes.as_slice()[id as usize]
 }

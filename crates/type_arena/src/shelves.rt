@@ -8,6 +8,7 @@ use crate::node::{Node, TypeRef};
 use crate::nodes::Nodes;
 
 /// Frozen arenas in a row, each at the position that is its home. A shelf borrows them and copies nothing.
+#[derive(Clone, Copy)]
 pub struct Shelf<'a> {
     pub(crate) frozen: &'a [Frozen],
     ghost placed: { IsPlaced (holdings_of frozen.now) } by { Prim.hlevel props },
