@@ -1,19 +1,16 @@
 -- Lemmas on an arena above the arenas of a shelf.
-use Rattle.std.proofs.Common.{◌≡◌, ◌≢◌, ℕ, zero, suc, ◌+◌, ◌<◌, ◌≤◌, List, [], ◌∷◌, ◌++◌, length, refl, ap, sym, subst, ◌∙◌, arith, Bool, true, false}
-use Rattle.std.specs.Prelude.{Option, Some, None, is_some, slice_get, slice_index_or, IsTrue, All, ◌==◌, nat_lt, ◌||◌, if◌then◌else◌, ◌⊎◌, not}
+use Rattle.std.proofs.Common.{◌≡◌, ◌≢◌, ℕ, zero, suc, ◌<◌, ◌≤◌, List, [], ◌∷◌, ◌++◌, length, refl, ap, sym, subst, ◌∙◌, arith, Bool, true, false}
+use Rattle.std.specs.Prelude.{Some, None, is_some, slice_get, IsTrue, All, ◌==◌, nat_lt, ◌||◌, if◌then◌else◌, ◌⊎◌}
 use Rattle.std.proofs.Math.Numerals.{one-add}
-use Rattle.std.specs.Option.{option_map_or}
 use Rattle.std.specs.Bool.{Decides}
-use Rattle.std.specs.List.{IsDistinct, list_any, position_or_len}
+use Rattle.std.specs.List.{list_any, position_or_len}
 use Rattle.std.proofs.Common.{inl, inr}
-use Rattle.std.proofs.lemmas.Grind.{common_steps}
-use Rattle.std.proofs.lemmas.Bool.{eqb-true, eqb-false, eq-eqb, ltb-true}
+use Rattle.std.proofs.lemmas.Bool.{eqb-true, eqb-false, ltb-true}
 use Rattle.std.proofs.lemmas.Bool.Decides.{nat_tests}
 use Rattle.std.proofs.lemmas.List.Elements.{All-weaker}
-use Rattle.std.proofs.lemmas.Map.Keys.{apart_from_distinct}
-use Rattle.std.proofs.lemmas.Option.{slice_get_past, slice_get_within, get_or_from_slice_get, slice_get-get_or}
+use Rattle.std.proofs.lemmas.Option.{slice_get_past, slice_get_within}
 use Rattle.indexmap.specs.IndexSet.{insert_key}
-use Rattle.type_arena.specs.Store.{Holding, Store, nodes_at, node_at, has, refs_of, is_older, IsOrdered, IsPlaced, IsClosed, IsSound, Keeps, with_own, Interned, found, added}
+use Rattle.type_arena.specs.Store.{Holding, Store, nodes_at, node_at, has, refs_of, is_older, IsOrdered, IsPlaced, IsSound, Keeps, with_own, Interned, found, added}
 use Rattle.type_arena.specs.declared.node.Node.{Node}
 use Rattle.type_arena.specs.declared.node.TypeRef.{TypeRef}
 use Rattle.type_arena.proofs.StoreLemmas.{is_some-slice_get, same_ref, ref_of}
@@ -211,7 +208,7 @@ module _ (below : Store) (placed : IsPlaced below) (home : ℕ) (above : length 
   IsSound-interned old new node id sound children interned = record {
     there = λ at there e. still_there at there (interned-origin old new node id interned at there e);
     older = λ at there e. still_older at there (interned-origin old new node id interned at there e);
-    once = λ at other there e e' same. still_once at other there e e' same (own_or_under below placed home above at)
+    once = λ at other there e e' same. still_once at other there e e' same (own_or_under below placed home above at);
   }
     where
       kept : (child : TypeRef) → IsTrue (has (with_own below home old) child) → IsTrue (has (with_own below home new) child)
@@ -237,9 +234,9 @@ module _ (below : Store) (placed : IsPlaced below) (home : ℕ) (above : length 
       still_once at other there e e' same (inr under) =
           let under' : other.home ≢ home = λ h. under (same ∙ h) in
           sound.once at other there
-            (node_at-under below placed home above old at under ∙ (sym (node_at-under below placed home above new at under) ∙ e))
-            (node_at-under below placed home above old other under' ∙ (sym (node_at-under below placed home above new other under') ∙ e'))
-            same
+          (node_at-under below placed home above old at under ∙ (sym (node_at-under below placed home above new at under) ∙ e))
+          (node_at-under below placed home above old other under' ∙ (sym (node_at-under below placed home above new other under') ∙ e'))
+          same
 
   -- an arena without nodes has those of its shelf
   pub node_at-empty : (at : TypeRef) → node_at (with_own below home []) at ≡ node_at below at
@@ -260,12 +257,12 @@ module _ (below : Store) (placed : IsPlaced below) (home : ℕ) (above : length 
   IsSound-empty sound = record {
     there = λ at there e. All-weaker (λ child. IsTrue (has below child)) (λ child. IsTrue (has (with_own below home []) child)) (λ child h. ap is_some (node_at-empty child) ∙ h) (refs_of there) (sound.there at there (sym (node_at-empty at) ∙ e));
     older = λ at there e. sound.older at there (sym (node_at-empty at) ∙ e);
-    once = λ at other there e e' same. sound.once at other there (sym (node_at-empty at) ∙ e) (sym (node_at-empty other) ∙ e') same
+    once = λ at other there e e' same. sound.once at other there (sym (node_at-empty at) ∙ e) (sym (node_at-empty other) ∙ e') same;
   }
 
   -- the nodes of a sound arena itself are ordered
   pub IsOrdered-own : (nodes : List Node) → IsSound (with_own below home nodes) → IsOrdered home nodes
   IsOrdered-own nodes sound = record {
     older = λ id there e. sound.older (ref_of home id) there (node_at-own below placed home above nodes (ref_of home id) refl ∙ e);
-    once = λ id other there e e'. ap (λ (a : TypeRef). a.id) (sound.once (ref_of home id) (ref_of home other) there (node_at-own below placed home above nodes (ref_of home id) refl ∙ e) (node_at-own below placed home above nodes (ref_of home other) refl ∙ e') refl)
+    once = λ id other there e e'. ap (λ (a : TypeRef). a.id) (sound.once (ref_of home id) (ref_of home other) there (node_at-own below placed home above nodes (ref_of home id) refl ∙ e) (node_at-own below placed home above nodes (ref_of home other) refl ∙ e') refl);
   }

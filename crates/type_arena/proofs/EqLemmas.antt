@@ -1,5 +1,5 @@
 -- The test for equal nodes decides that they are equal.
-use Rattle.std.proofs.Common.{◌≡◌, refl, ap, sym, ◌∙◌, subst, rules, arith, true, false, Bool, List, ℕ}
+use Rattle.std.proofs.Common.{◌≡◌, refl, ap, sym, ◌∙◌, true, false, Bool, List, ℕ}
 use Rattle.std.specs.Prelude.{◌&&◌, ◌==◌}
 use Rattle.std.specs.Bool.{Decides}
 use Rattle.std.proofs.Math.Bool.{beq}
@@ -57,7 +57,8 @@ same_row a b frozen fields = λ j. record { frozen = frozen j; fields = fields j
 row_tested : TestsEqual RowEq.ghosts.eq
 row_tested a b = (
   λ h. let both = both_true _ _ h in same_row a b ((booleans_Decides a.frozen b.frozen).0 both.0) ((fields_tested a.fields b.fields).0 both.1),
-  λ e. true_both _ _ ((booleans_Decides a.frozen b.frozen).1 (ap (λ (r : Row). r.frozen) e)) ((fields_tested a.fields b.fields).1 (ap (λ (r : Row). r.fields) e)))
+  λ e. true_both _ _ ((booleans_Decides a.frozen b.frozen).1 (ap (λ (r : Row). r.frozen) e)) ((fields_tested a.fields b.fields).1 (ap (λ (r : Row). r.fields) e)),
+)
 
 rows_tested : TestsEqual (pointwise RowEq.ghosts.eq)
 rows_tested a b = slice_eq-Decides row_tested a b _ refl
@@ -95,7 +96,8 @@ unfolding node_test
 node_tested a b =
     let flag = booleans_Decides in
     let five = Decides-and _ _ (flag a.other b.other) (Decides-and _ _ (strings_tested a.strings b.strings) (Decides-and _ _ (functions_tested a.functions b.functions) (rows_tested a.rows b.rows))) in
-    let all = Decides-and _ _ (flag a.nil b.nil) (Decides-and _ _ (flag a.truth b.truth) (Decides-and _ _ (flag a.falsity b.falsity) (Decides-and _ _ (flag a.number b.number) five))) in
-    (λ h. let f = all.0 (sym (node_test-is a b) ∙ h) in
-      λ j. record { nil = f.0 j; truth = f.1.0 j; falsity = f.1.1.0 j; number = f.1.1.1.0 j; other = f.1.1.1.1.0 j; strings = f.1.1.1.1.1.0 j; functions = f.1.1.1.1.1.1.0 j; rows = f.1.1.1.1.1.1.1 j },
-    λ e. node_test-is a b ∙ all.1 (ap (λ (n : Node). n.nil) e, (ap (λ (n : Node). n.truth) e, (ap (λ (n : Node). n.falsity) e, (ap (λ (n : Node). n.number) e, (ap (λ (n : Node). n.other) e, (ap (λ (n : Node). n.strings) e, (ap (λ (n : Node). n.functions) e, ap (λ (n : Node). n.rows) e))))))))
+    let all = Decides-and _ _ (flag a.nil b.nil) (Decides-and _ _ (flag a.truth b.truth) (Decides-and _ _ (flag a.falsity b.falsity) (Decides-and _ _ (flag a.number b.number) five))) in (
+      λ h. let f = all.0 (sym (node_test-is a b) ∙ h) in
+          λ j. record { nil = f.0 j; truth = f.1.0 j; falsity = f.1.1.0 j; number = f.1.1.1.0 j; other = f.1.1.1.1.0 j; strings = f.1.1.1.1.1.0 j; functions = f.1.1.1.1.1.1.0 j; rows = f.1.1.1.1.1.1.1 j },
+      λ e. node_test-is a b ∙ all.1 (ap (λ (n : Node). n.nil) e, (ap (λ (n : Node). n.truth) e, (ap (λ (n : Node). n.falsity) e, (ap (λ (n : Node). n.number) e, (ap (λ (n : Node). n.other) e, (ap (λ (n : Node). n.strings) e, (ap (λ (n : Node). n.functions) e, ap (λ (n : Node). n.rows) e))))))),
+    )

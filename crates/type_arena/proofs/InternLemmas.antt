@@ -1,12 +1,12 @@
 -- What interning a node does to what references mean, and which homes it uses.
-use Rattle.std.proofs.Common.{◌≡◌, ◌≢◌, ℕ, ◌≤◌, List, [], ◌∷◌, length, refl, ap, sym, subst, ◌∙◌, Bool, true, false}
-use Rattle.std.specs.Prelude.{Option, Some, None, is_some, slice_get, IsTrue, All, Contains, ◌⊎◌, Result, Ok, Err, IfOk, OnErr}
+use Rattle.std.proofs.Common.{◌≡◌, ℕ, ◌≤◌, List, [], ◌∷◌, length, refl, sym, subst, ◌∙◌, Bool}
+use Rattle.std.specs.Prelude.{Some, None, IsTrue, All, Contains, ◌⊎◌, Result, Ok, Err, IfOk, OnErr}
 use Rattle.std.proofs.Common.{inl, inr}
 use Rattle.std.specs.Bool.{Decides}
 use Rattle.std.specs.List.{position_or_len}
 use Rattle.std.proofs.lemmas.List.Elements.{All-contains_itself, All-weaker, All-cons, All-nil, All-contains}
 use Rattle.indexmap.specs.IndexSet.{insert_key}
-use Rattle.type_arena.specs.Homes.{Reaches, itself, ReachesHome, by_ref, Given, MayUse, own_home, given_literal, reached, UsesHomes, literal_homes}
+use Rattle.type_arena.specs.Homes.{itself, by_ref, Given, MayUse, own_home, given_literal, reached, UsesHomes, literal_homes}
 use Rattle.type_arena.specs.Meaning.{term_of, term_by}
 use Rattle.type_arena.specs.Store.{Store, node_at, has, refs_of, IsPlaced, IsSound, Keeps, with_own, Interned}
 use Rattle.type_arena.specs.declared.node.Node.{Node}
@@ -34,14 +34,14 @@ module _ (below : Store) (placed : IsPlaced below) (home : ℕ) (above : length 
   interned-meaning =
       term_of-node (with_own below home new) (IsSound-interned below placed home above old new node id sound children interned) (ref_of home id) node interned-node
       ∙ term_by-same (term_of (with_own below home new)) (term_of (with_own below home old)) node
-        (λ child inside. interned-kept child (All-contains (λ c. IsTrue (has (with_own below home old) c)) (refs_of node) child children inside))
+      (λ child inside. interned-kept child (All-contains (λ c. IsTrue (has (with_own below home old) c)) (refs_of node) child children inside))
 
   -- no home is used but its own and those of the node
   pub interned-homes : UsesHomes home (with_own below home old) (with_own below home new) (record { refs = refs_of node; literals = literal_homes node.functions }) (ref_of home id ∷ [])
   interned-homes = record {
     answered = All-cons (λ at. May at.home) (ref_of home id) [] own_home (All-nil (λ at. May at.home));
     refs = λ at there e absent. of_node at there e absent (interned-origin below placed home above old new node id interned at there e);
-    literals = λ at there e absent. literals_of_node at there absent (interned-origin below placed home above old new node id interned at there e)
+    literals = λ at there e absent. literals_of_node at there absent (interned-origin below placed home above old new node id interned at there e);
   }
     where
       given : Given

@@ -5,3 +5,4 @@ pub mod ShelfLemmas
 pub mod EqLemmas
 pub mod ArenaLemmas
 pub mod InternLemmas
+pub mod LongerLemmas

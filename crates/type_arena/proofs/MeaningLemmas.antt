@@ -1,11 +1,10 @@
 -- Laws of what a reference means.
-use Rattle.std.proofs.Common.{◌≡◌, ℕ, zero, suc, ◌+◌, ◌<◌, ◌≤◌, List, [], ◌∷◌, ◌++◌, length, refl, ap, sym, ◌∙◌, arith, Bool, true, false}
-use Rattle.std.specs.Prelude.{Option, Some, None, is_some, slice_get, All, IsTrue, Contains}
+use Rattle.std.proofs.Common.{◌≡◌, ℕ, zero, suc, ◌<◌, List, [], ◌∷◌, refl, ap, sym, ◌∙◌, arith}
+use Rattle.std.specs.Prelude.{Option, Some, None, is_some, IsTrue, Contains}
 use Rattle.std.specs.Option.{option_map_or}
-use Rattle.std.proofs.lemmas.Grind.{common_steps}
-use Rattle.std.proofs.lemmas.List.Elements.{All-contains_itself, All-weaker, All-head, All-tail, All-contains, Contains-append_left, Contains-append_right}
-use Rattle.type_arena.specs.Term.{Term, term, Rows, no_rows, more_rows, Fields, no_fields, more_fields, never, free_of}
-use Rattle.type_arena.specs.Store.{Holding, Store, nodes_at, node_at, has, field_types, row_types, refs_of, is_older, IsSound, Keeps}
+use Rattle.std.proofs.lemmas.List.Elements.{All-contains, Contains-append_left, Contains-append_right}
+use Rattle.type_arena.specs.Term.{Term, term, never, free_of}
+use Rattle.type_arena.specs.Store.{Store, node_at, has, field_types, row_types, refs_of, is_older, IsSound, Keeps}
 use Rattle.type_arena.specs.Meaning.{fields_by, rows_by, term_by, term_within, rank, term_of}
 use Rattle.type_arena.specs.Homes.{Reaches, itself, through}
 use Rattle.type_arena.specs.declared.node.Node.{Node}
@@ -77,10 +76,10 @@ pub term_of-node : (store : Store) → IsSound store → (at : TypeRef) (node : 
 unfolding term_of term_within
 term_of-node store sound at node e =
     rw e (term_by-same (term_within (rank store at) store) (term_of store) node (λ child inside.
-        let there : IsTrue (has store child) = All-contains (λ c. IsTrue (has store c)) (refs_of node) child (sound.there at node e) inside in
-        let older : IsTrue (is_older child at) = All-contains (λ c. IsTrue (is_older c at)) (refs_of node) child (sound.older at node e) inside in
-        let below : rank store child < rank store at = rank-older store child at there older in
-        term_within-same store store sound sound (rank store at) (suc (rank store child)) child below (omega arith) (λ far reached. refl)))
+    let there : IsTrue (has store child) = All-contains (λ c. IsTrue (has store c)) (refs_of node) child (sound.there at node e) inside in
+    let older : IsTrue (is_older child at) = All-contains (λ c. IsTrue (is_older c at)) (refs_of node) child (sound.older at node e) inside in
+    let below : rank store child < rank store at = rank-older store child at there older in
+    term_within-same store store sound sound (rank store at) (suc (rank store child)) child below (omega arith) (λ far reached. refl)))
 
 -- what is reached from a reference that is there is there
 pub Reaches-there : (store : Store) → IsSound store → {at far : TypeRef} → Reaches store at far → IsTrue (has store at) → IsTrue (has store far)

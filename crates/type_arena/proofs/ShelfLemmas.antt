@@ -1,8 +1,7 @@
 -- Lemmas on arenas of which each stands at the position that is its home.
-use Rattle.std.proofs.Common.{◌≡◌, ◌≢◌, ℕ, zero, suc, ◌+◌, ◌<◌, ◌≤◌, List, [], ◌∷◌, ◌++◌, length, refl, ap, sym, subst, ◌∙◌, arith, Bool, true, false, add-one}
-use Rattle.std.specs.Prelude.{Option, Some, None, is_some, slice_get, slice_index_or, IsTrue, All, ◌==◌, nat_lt, if◌then◌else◌, map}
+use Rattle.std.proofs.Common.{◌≡◌, ℕ, zero, suc, ◌+◌, ◌<◌, ◌≤◌, List, [], ◌∷◌, length, refl, ap, sym, subst, ◌∙◌, arith, Bool, true, false}
+use Rattle.std.specs.Prelude.{Option, Some, None, is_some, slice_get, slice_index_or, IsTrue, All, nat_lt}
 use Rattle.std.specs.Option.{option_map_or, option_map}
-use Rattle.std.proofs.lemmas.Grind.{common_steps}
 use Rattle.std.proofs.lemmas.Option.{slice_get_past, slice_get-map, slice_get-get_or}
 use Rattle.std.proofs.lemmas.Bool.Decides.{nat_tests}
 use Rattle.std.proofs.lemmas.Bool.{ltb-true}
@@ -95,13 +94,13 @@ pub sound_where_placed : (arenas : List Frozen) → IsPlaced (holdings_of arenas
 sound_where_placed arenas placed closed = record {
   there = closed;
   older = λ at node e. let in_arena = arena_of-node arenas placed at node e in
-    let P : ℕ → Type 0 = λ home. All (λ child. IsTrue (is_older child (record { home = home; id = at.id }))) (refs_of node) in
-    subst P in_arena.2 (in_arena.0.ordered.older at.id node in_arena.3);
+      let P : ℕ → Type 0 = λ home. All (λ child. IsTrue (is_older child (record { home = home; id = at.id }))) (refs_of node) in
+      subst P in_arena.2 (in_arena.0.ordered.older at.id node in_arena.3);
   once = λ at other node e e' same.
-    let in_arena = arena_of-node arenas placed at node e in
-    let in_other = arena_of-node arenas placed other node e' in
-    let home : Some in_other.0 ≡ Some in_arena.0 = sym in_other.1 ∙ (sym (ap (slice_get arenas) same) ∙ in_arena.1) in
-    let one : in_other.0 ≡ in_arena.0 = cc in
-    let id : at.id ≡ other.id = in_arena.0.ordered.once at.id other.id node in_arena.3 (rw one at in_other.3) in
-    same_ref at other same id
+      let in_arena = arena_of-node arenas placed at node e in
+      let in_other = arena_of-node arenas placed other node e' in
+      let home : Some in_other.0 ≡ Some in_arena.0 = sym in_other.1 ∙ (sym (ap (slice_get arenas) same) ∙ in_arena.1) in
+      let one : in_other.0 ≡ in_arena.0 = cc in
+      let id : at.id ≡ other.id = in_arena.0.ordered.once at.id other.id node in_arena.3 (rw one at in_other.3) in
+      same_ref at other same id;
 }

@@ -1,10 +1,9 @@
 -- Lemmas on which reference has which node.
-use Rattle.std.proofs.Common.{◌≡◌, ℕ, zero, suc, ◌+◌, ◌<◌, ◌≤◌, List, [], ◌∷◌, ◌++◌, length, refl, ap, sym, ◌∙◌, arith, Bool, true, false}
-use Rattle.std.specs.Prelude.{Option, Some, None, is_some, slice_get, All, IsTrue, nat_lt, ◌==◌, ◌||◌, ◌&&◌}
-use Rattle.std.proofs.lemmas.Grind.{common_steps}
+use Rattle.std.proofs.Common.{◌≡◌, ℕ, zero, suc, ◌+◌, ◌<◌, ◌≤◌, List, [], ◌∷◌, length, refl, ap, ◌∙◌, arith}
+use Rattle.std.specs.Prelude.{Option, Some, None, is_some, slice_get, IsTrue, nat_lt}
 use Rattle.std.proofs.lemmas.Option.{slice_get_within}
 use Rattle.std.proofs.lemmas.Bool.Decides.{nat_tests}
-use Rattle.type_arena.specs.Store.{Holding, Store, nodes_at, node_at, has, refs_of, is_older, IsSound, Keeps}
+use Rattle.type_arena.specs.Store.{Store, nodes_at, node_at, has, is_older}
 use Rattle.type_arena.specs.Meaning.{nodes_below, rank}
 use Rattle.type_arena.specs.declared.node.Node.{Node}
 use Rattle.type_arena.specs.declared.node.TypeRef.{TypeRef}

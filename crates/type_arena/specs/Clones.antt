@@ -1,5 +1,4 @@
 -- What a clone of a set of names is.
-use Rattle.std.specs.Prelude.{List}
 use Rattle.std.specs.List.{AllZip}
 use Rattle.type_arena.specs.declared.node.Among.{Among}
 use Rattle.type_arena.specs.declared.node.Among.TheVariants.{Only, AllBut}

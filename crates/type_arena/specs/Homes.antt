@@ -1,6 +1,6 @@
 -- Which references and which homes are reached from a reference, and which homes a call may use.
-use Rattle.std.specs.Prelude.{◌≡◌, ℕ, List, [], ◌∷◌, ◌++◌, Option, Some, None, All, Contains}
-use Rattle.type_arena.specs.Store.{Store, node_at, refs_of}
+use Rattle.std.specs.Prelude.{◌≡◌, ℕ, List, [], ◌∷◌, Some, None, All, Contains}
+use Rattle.type_arena.specs.Store.{Store, nodes_at, node_at, refs_of}
 use Rattle.type_arena.specs.declared.node.Among.{Among}
 use Rattle.type_arena.specs.declared.node.Among.TheVariants.{Only, AllBut}
 use Rattle.type_arena.specs.declared.node.FnName.{FnName}
@@ -12,6 +12,10 @@ use Rattle.type_arena.specs.declared.node.TypeRef.{TypeRef}
 pub data Reaches (store : Store) : TypeRef → TypeRef → Type 0 where
   itself : {at : TypeRef} → Reaches store at at
   through : {at child far : TypeRef} (node : Node) → node_at store at ≡ Some node → Contains (refs_of node) child → Reaches store child far → Reaches store at far
+
+-- another store has, at the home of each reference that is reached from one, the same arena
+abbrev pub HasReached : Store → TypeRef → Store → Type 0
+HasReached store at other = (far : TypeRef) → Reaches store at far → nodes_at other far.home ≡ nodes_at store far.home
 
 -- the homes of the function literals in a list of names
 abbrev pub homes_in : List FnName → List ℕ

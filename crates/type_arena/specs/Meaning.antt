@@ -1,7 +1,7 @@
 -- What a reference means: the term that its node gives, in which each reference stands for its own term.
 use Rattle.std.specs.Prelude.{ℕ, zero, suc, ◌+◌, nat_lt, List, [], ◌∷◌, length, if◌then◌else◌}
 use Rattle.std.specs.Option.{option_map_or}
-use Rattle.type_arena.specs.Store.{Holding, Store, node_at}
+use Rattle.type_arena.specs.Store.{Store, node_at}
 use Rattle.type_arena.specs.Term.{Term, term, Rows, no_rows, more_rows, Fields, no_fields, more_fields, never, free_of}
 use Rattle.type_arena.specs.declared.node.Node.{Node}
 use Rattle.type_arena.specs.declared.node.Row.{Row}

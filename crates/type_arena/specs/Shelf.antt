@@ -1,6 +1,5 @@
 -- Shelves and arenas, seen as their nodes under their homes.
-use Rattle.std.specs.Prelude.{ℕ, List, [], ◌∷◌, ◌++◌}
-use Rattle.type_arena.specs.Store.{Holding, Store}
+use Rattle.type_arena.specs.Store.{Store}
 use Rattle.type_arena.specs.Frozen.{holdings_of}
 use Rattle.type_arena.specs.declared.shelves.Shelf.{Shelf}
 

@@ -1,5 +1,5 @@
 -- Nodes in several arenas: which reference has which node, and which references are older than which.
-use Rattle.std.specs.Prelude.{◌≡◌, ℕ, ◌<◌, Bool, ◌==◌, nat_lt, ◌&&◌, ◌||◌, List, [], ◌∷◌, ◌++◌, length, Option, Some, is_some, slice_get, All, IsTrue, if◌then◌else◌}
+use Rattle.std.specs.Prelude.{◌≡◌, ℕ, Bool, ◌==◌, nat_lt, ◌&&◌, ◌||◌, List, [], ◌∷◌, ◌++◌, length, Option, Some, is_some, slice_get, All, IsTrue, if◌then◌else◌}
 use Rattle.type_arena.specs.declared.node.Node.{Node}
 use Rattle.type_arena.specs.declared.node.Row.{Row}
 use Rattle.type_arena.specs.declared.node.TypeRef.{TypeRef}

@@ -71,5 +71,5 @@ free_of node = record {
   number = node.number;
   other = node.other;
   strings = strings_of node.strings;
-  functions = functions_of node.functions
+  functions = functions_of node.functions;
 }

@@ -46,11 +46,11 @@ impl<'a> Nodes for Arena<'a> {
 }
 
 impl<'a> Arena<'a> {
-    ghost use Rattle.std.specs.Prelude.{◌≡◌, ◌∷◌, [], All, IsTrue, IfOk, OnErr, Some};
+    ghost use Rattle.std.specs.Prelude.{◌≡◌, ◌∷◌, ◌++◌, [], All, IsTrue, IfOk, OnErr, Some};
     ghost use Rattle.type_arena.specs.Arena.{home_of, nodes_of, below_of, store_of};
-    ghost use Rattle.type_arena.specs.Homes.{UsesHomes, literal_homes};
+    ghost use Rattle.type_arena.specs.Homes.{UsesHomes, HasReached, literal_homes};
     ghost use Rattle.type_arena.specs.Meaning.{term_of, term_by};
-    ghost use Rattle.type_arena.specs.Store.{Holding, Interned, Keeps, node_at, has as has_node, refs_of};
+    ghost use Rattle.type_arena.specs.Store.{Store, Holding, IsSound, Interned, Keeps, nodes_at, node_at, has as has_node, refs_of};
     ghost use Rattle.type_arena.specs.Frozen.{holding_of};
     ghost use Rattle.type_arena.specs.declared.node.TypeRef.{TypeRef};
 
@@ -84,8 +84,16 @@ impl<'a> Arena<'a> {
     }
 
     /// The arena with what it has now, which takes no more nodes. Copies nothing.
+    ///
+    /// Every reference means the same afterwards in all arenas that have, at their homes, this arena and those that are
+    /// reached from the reference.
     pub fn freeze(self) -> Frozen
-        ensures { holding_of result ≡ (record { home = home_of self.entry; nodes = nodes_of self.entry }) }
+        ensures nodes { holding_of result ≡ (record { home = home_of self.entry; nodes = nodes_of self.entry }) }
+        ensures meaning { (store : Store) → IsSound store → (at : TypeRef) → HasReached (store_of self.entry) at store → term_of store at ≡ term_of (store_of self.entry) at }
+
+        // It stands above the shelf that it was made over.
+        ensures stands { IsSound (below_of self.entry ++ holding_of result ∷ []) }
+        ensures own { nodes_at (store_of self.entry) (home_of self.entry) ≡ (holding_of result).nodes }
     {
         Frozen {
             home: self.home,

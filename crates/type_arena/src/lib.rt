@@ -5,15 +5,22 @@
 mod arena;
 mod containers;
 mod frozen;
+mod laws;
 mod node;
 mod nodes;
+mod opening;
 mod shelves;
 mod shelving;
 
 pub use arena::Arena;
 pub use containers::{Label, List, Text};
 pub use frozen::Frozen;
+pub use laws::{
+    frozen_arenas_stand_on_longer_shelves, meaning_is_by_nodes, meaning_is_by_what_is_reached,
+    meaning_is_kept, reached_references_are_there, references_lead_down,
+};
 pub use node::{Among, FnName, Node, Row, TypeRef};
 pub use nodes::Nodes;
+pub use opening::over;
 pub use shelves::Shelf;
 pub use shelving::shelf;

@@ -13,7 +13,7 @@ invariant_of-self c =
     let did = c.insert_full.ensures in
     record {
       above = was.above;
-      sound = sound_either_way (shelf_store was.shelf) was.shelf.placed was.home was.above _ node_tested was.own.keys c.insert_full.new.self.keys c.args.node (λ (r : ℕ × Bool). r.0) c.insert_full.result was.sound c.requires did.keys did.index did.err
+      sound = sound_either_way (shelf_store was.shelf) was.shelf.placed was.home was.above _ node_tested was.own.keys c.insert_full.new.self.keys c.args.node (λ (r : ℕ × Bool). r.0) c.insert_full.result was.sound c.requires did.keys did.index did.err;
     }
 
 -- what the set did is to intern the node

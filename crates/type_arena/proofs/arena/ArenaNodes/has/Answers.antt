@@ -1,4 +1,4 @@
-use Rattle.std.proofs.Common.{◌≡◌, sym, ◌∙◌, ap, nat_lt}
+use Rattle.std.proofs.Common.{sym, ◌∙◌, ap, nat_lt}
 use Rattle.std.specs.Prelude.{is_some}
 use Rattle.type_arena.specs.Shelf.{shelf_store}
 use Rattle.type_arena.proofs.ArenaLemmas.{node_at-own, node_at-under}

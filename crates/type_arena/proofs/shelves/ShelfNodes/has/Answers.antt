@@ -1,4 +1,4 @@
-use Rattle.std.proofs.Common.{◌≡◌, sym, ◌∙◌, ap, length, get_or, List, Bool, nat_lt}
+use Rattle.std.proofs.Common.{◌≡◌, sym, ◌∙◌, ap, length, get_or, nat_lt}
 use Rattle.std.specs.Prelude.{is_some}
 use Rattle.type_arena.proofs.ShelfLemmas.{has-within, node_at-past}
 use Rattle.type_arena.specs.declared.frozen.Frozen.{Frozen}

@@ -1,4 +1,4 @@
-use Rattle.std.proofs.Common.{◌≡◌, sym, ◌∙◌, ap}
+use Rattle.std.proofs.Common.{◌∙◌}
 use Rattle.type_arena.proofs.ShelfLemmas.{has-home, has-id, node_at-within}
 use Rattle.type_arena.proofs.shelves.ShelfNodes.node.Goals as goal
 
