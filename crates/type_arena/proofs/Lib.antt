@@ -6,3 +6,4 @@ pub mod EqLemmas
 pub mod ArenaLemmas
 pub mod InternLemmas
 pub mod LongerLemmas
+pub mod TestLemmas

@@ -6,7 +6,7 @@ use Rattle.type_arena.specs.Meaning.{term_of}
 use Rattle.type_arena.specs.Store.{Holding, Store, nodes_at, node_at, has, refs_of, is_older, IsPlaced, IsSound, Keeps}
 use Rattle.type_arena.specs.declared.node.Node.{Node}
 use Rattle.type_arena.specs.declared.node.TypeRef.{TypeRef}
-use Rattle.type_arena.proofs.ArenaLemmas.{slice_get-push, slice_get-last, own_or_under, node_at-own, node_at-under}
+use Rattle.type_arena.proofs.ArenaLemmas.{slice_get-push, slice_get-push_cases, slice_get-last, own_or_under, node_at-own, node_at-under}
 use Rattle.type_arena.proofs.MeaningLemmas.{has-kept, term_of-kept}
 
 -- an item stays where it is when more follow
@@ -27,6 +27,14 @@ Keeps-append (arena ∷ arenas) more at node e = go (arena.home == at.home) refl
     go false other rest =
         let was : node_at arenas at ≡ Some node = sym (ap (λ t. slice_get (if t then arena.nodes else nodes_at arenas at.home) at.id) other) ∙ e in
         ap (λ t. slice_get (if t then arena.nodes else nodes_at (arenas ++ more) at.home) at.id) other ∙ rest was
+
+-- arenas stand at their homes where one with the next home goes last
+pub IsPlaced-push : (store : Store) (arena : Holding) → IsPlaced store → arena.home ≡ length store → IsPlaced (store ++ arena ∷ [])
+IsPlaced-push store arena placed last home other e = go (slice_get-push_cases store home other arena e)
+  where
+    go : (slice_get store home ≡ Some other) ⊎ ((home ≡ length store) × (other ≡ arena)) → other.home ≡ home
+    go (inl h) = placed home other h
+    go (inr (h, same)) = ap (λ (a : Holding). a.home) same ∙ (last ∙ sym h)
 
 module _ (below more : Store) (arena : Holding) (placed : IsPlaced (below ++ more ++ arena ∷ [])) (sound : IsSound (below ++ more)) (stands : IsSound (below ++ arena ∷ [])) where
   placed-longer : IsPlaced (below ++ more)

@@ -1,5 +1,5 @@
 //! Laws of what references mean, for the proofs above.
-ghost use Rattle.std.specs.Prelude.{◌≡◌, ◌<◌, ◌∷◌, ◌++◌, [], Some, IsTrue, Contains};
+ghost use Rattle.std.specs.Prelude.{◌≡◌, ◌<◌, ◌∷◌, ◌++◌, [], Some, IsTrue, Contains, length};
 ghost use Rattle.type_arena.specs.Homes.{Reaches, HasReached};
 ghost use Rattle.type_arena.specs.Meaning.{rank, term_of, term_by};
 ghost use Rattle.type_arena.specs.Store.{Store, Holding, IsPlaced, IsSound, Keeps, node_at, has as has_node, refs_of, is_older};
@@ -29,6 +29,11 @@ pub fn reached_references_are_there()
 /// The references in a node have a lower rank than the node's, so following them ends.
 pub fn references_lead_down()
     ensures { (store : Store) → IsSound store → (at child : TypeRef) (node : Node) → node_at store at ≡ Some node → Contains (refs_of node) child → rank store child < rank store at }
+{}
+
+/// Arenas stand at their homes where one with the next home goes last.
+pub fn shelves_grow_at_the_end()
+    ensures { (store : Store) (arena : Holding) → IsPlaced store → arena.home ≡ length store → IsPlaced (store ++ arena ∷ []) }
 {}
 
 /// What stands above a shelf stands above every longer one, where it has its home as its position, and means the same.

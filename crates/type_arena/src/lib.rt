@@ -17,10 +17,13 @@ pub use containers::{Label, List, Text};
 pub use frozen::Frozen;
 pub use laws::{
     frozen_arenas_stand_on_longer_shelves, meaning_is_by_nodes, meaning_is_by_what_is_reached,
-    meaning_is_kept, reached_references_are_there, references_lead_down,
+    meaning_is_kept, reached_references_are_there, references_lead_down, shelves_grow_at_the_end,
 };
 pub use node::{Among, FnName, Node, Row, TypeRef};
 pub use nodes::Nodes;
 pub use opening::over;
 pub use shelves::Shelf;
 pub use shelving::shelf;
+
+#[cfg(test)]
+mod tests;
