@@ -1,0 +1,8 @@
+pub mod Arena
+pub mod Clones
+pub mod Frozen
+pub mod Homes
+pub mod Meaning
+pub mod Shelf
+pub mod Store
+pub mod Term
