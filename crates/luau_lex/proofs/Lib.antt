@@ -1,0 +1,4 @@
+pub mod BracketLemmas
+pub mod NameLemmas
+pub mod ReadingLemmas
+pub mod StringLemmas
