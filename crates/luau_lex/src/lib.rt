@@ -18,3 +18,4 @@ mod values;
 
 pub use reader::lex;
 pub use token::{Kind, LexError, Token};
+pub use values::value_of;
