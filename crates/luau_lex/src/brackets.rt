@@ -4,9 +4,9 @@ ghost use Rattle.luau_lex.specs.Pieces.{long_piece};
 ghost use Rattle.luau_lex.specs.Tokens.{IsWithin};
 ghost use Rattle.luau_lex.specs.Brackets.{level, closes, closing_place};
 
+use crate::bytes::{Class, byte_at, run_len};
 use crate::piece::Piece;
 use crate::token::{Kind, LexError};
-use crate::bytes::{Class, byte_at, run_len};
 
 /// The level of the long bracket that opens at the front.
 #[tactic(auto, unfolding(crate::specs::Brackets::level))]

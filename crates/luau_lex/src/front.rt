@@ -9,9 +9,9 @@ use crate::gaps::comment_piece;
 use crate::interpolation::part_piece;
 use crate::names::name_piece;
 use crate::numerals::{begins_numeral, numeral_piece};
+use crate::piece::{Open, Piece};
 use crate::signs::sign_piece;
 use crate::strings::quoted_piece;
-use crate::piece::{Open, Piece};
 use crate::token::Kind;
 
 /// What stands at the closing brace at the front, where the interpolated string that goes on there, if one

@@ -13,6 +13,8 @@ mod piece;
 mod reader;
 mod signs;
 mod strings;
+#[cfg(test)]
+mod tests;
 mod token;
 mod values;
 

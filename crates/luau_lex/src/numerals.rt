@@ -6,9 +6,9 @@ ghost use Rattle.luau_lex.specs.Pieces.{numeral_piece};
 ghost use Rattle.luau_lex.specs.Tokens.{IsWithin};
 ghost use Rattle.luau_lex.specs.Numerals.{begins_numeral, numeral_len, exponent_len, is_exponent_letter, is_exponent_sign, is_digits, is_exponent_or_none, after_fraction, is_decimal, is_hex_part, is_binary_part, is_numeral};
 
+use crate::bytes::{Class, byte_at, run_len};
 use crate::piece::Piece;
 use crate::token::{Kind, LexError};
-use crate::bytes::{Class, byte_at, run_len};
 
 /// Whether a numeral begins at the front.
 pub fn begins_numeral(text: &[u8]) -> bool

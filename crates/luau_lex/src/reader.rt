@@ -4,13 +4,12 @@ ghost use Rattle.luau_lex.specs.Tokens.{Tok, seen_token, token_at, tokens_of, fi
 ghost use Rattle.luau_lex.specs.Pieces.{opens_behind, innermost};
 ghost use Rattle.luau_lex.specs.Reading.{answer_of, IsSmall};
 
-use luau_tree::Span;
-use std::alloc::{AllocError, Global};
-
 use crate::bytes::{Class, byte_at, run_len};
 use crate::front::piece;
 use crate::piece::{Open, Piece};
 use crate::token::{Kind, LexError, Token};
+use luau_tree::Span;
+use std::alloc::{AllocError, Global};
 
 /// A text that is read from its begin to its end: what is left of it, and what was found so far.
 #[derive(Drop)]

@@ -3,9 +3,9 @@ ghost use Rattle.luau_lex.specs.Pieces.{sign_piece};
 ghost use Rattle.luau_lex.specs.Tokens.{IsWithin};
 ghost use Rattle.luau_lex.specs.Signs.{takes_equals, stands_alone, sign_len_of, sign_len};
 
+use crate::bytes::byte_at;
 use crate::piece::Piece;
 use crate::token::{Kind, LexError};
-use crate::bytes::byte_at;
 
 fn takes_equals(b: u8) -> bool
     ensures { result ≡ takes_equals b }

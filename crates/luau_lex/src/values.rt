@@ -2,11 +2,10 @@ ghost use Rattle.std.specs.Prelude.{◌≡◌, ◌≤◌, ◌++◌, [], OnOk, If
 ghost use Rattle.luau_lex.specs.Values.{between_marks, without_first_line_end, is_line_end_pair, with_line_feeds, long_value, marked_value, string_value};
 ghost use Rattle.luau_lex.specs.Strings.{utf8_scheme, value_of_inside, stands_value, IsWritable};
 
-use luau_tree::Bytes;
-
 use crate::bytes::{Class, byte_at, run_len};
 use crate::elements::{Stands, element};
 use crate::token::{Kind, Token};
+use luau_tree::Bytes;
 use std::alloc::{AllocError, Global};
 
 /// Adds the bytes of a number by the scheme of UTF-8.
@@ -119,7 +118,10 @@ fn long_value(alloc: Global, bytes: &[u8]) -> Result<Vec<u8>, AllocError>
     } else {
         run_len(&bytes[1..], Class::EqualsSign)
     };
-    with_line_feeds(alloc, without_first_line_end(between_marks(signs + 2, bytes)))
+    with_line_feeds(
+        alloc,
+        without_first_line_end(between_marks(signs + 2, bytes)),
+    )
 }
 
 /// The bytes of a string between marks of one byte.
