@@ -1,4 +1,7 @@
 pub mod BracketLemmas
+pub mod GrammarLemmas
+pub mod LongestLemmas
 pub mod NameLemmas
+pub mod OrderLemmas
 pub mod ReadingLemmas
 pub mod StringLemmas

@@ -8,3 +8,4 @@ pub mod Pieces
 pub mod Tokens
 pub mod Values
 pub mod Reading
+pub mod Grammar

@@ -7,6 +7,7 @@ mod elements;
 mod front;
 mod gaps;
 mod interpolation;
+pub mod laws;
 mod names;
 mod numerals;
 mod piece;

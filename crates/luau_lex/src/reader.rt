@@ -1,8 +1,9 @@
-ghost use Rattle.std.specs.Prelude.{◌≡◌, ◌≢◌, ◌≤◌, ◌<◌, ◌+◌, ◌^◌, ◌++◌, ◌∷◌, [], length, take, drop, slice_index, IfOk, IfErr, OnOk, map, Ok, Err, Some};
+ghost use Rattle.std.specs.Prelude.{◌≡◌, ◌≢◌, ◌≤◌, ◌<◌, ◌+◌, ◌^◌, ◌++◌, ◌∷◌, [], length, take, drop, slice_index, IfOk, IfErr, OnOk, List, ℕ, map, Ok, Err, Some};
 ghost use Rattle.luau_lex.specs.declared.token.LexError.TheVariants.{NoMemory};
 ghost use Rattle.luau_lex.specs.Tokens.{Tok, seen_token, token_at, tokens_of, first_line_len};
 ghost use Rattle.luau_lex.specs.Pieces.{opens_behind, innermost};
-ghost use Rattle.luau_lex.specs.Reading.{answer_of, IsSmall};
+ghost use Rattle.luau_lex.specs.Reading.{answer_of, IsSmall, HasRead};
+ghost use Rattle.luau_lex.specs.Grammar.{HasTokens};
 
 use crate::bytes::{Class, byte_at, run_len};
 use crate::front::piece;
@@ -63,6 +64,9 @@ impl<'s> Reader<'s> {
         requires small { IsSmall self.old }
         ensures ok { OnOk result (answer_of self.new ≡ answer_of self.old) }
         ensures err { IfErr result (λ e. e ≢ NoMemory → answer_of self.old ≡ Err e) }
+        ensures pieces { OnOk result ((text : List ℕ) → HasRead text self.old → HasRead text self.new) }
+        ensures fault { IfErr result (λ e. e ≢ NoMemory →
+            (text : List ℕ) → HasRead text self.old → HasTokens text (Err e)) }
         ensures shorter { OnOk result (length self.new.rest.now < length self.old.rest.now) }
         ensures stays { OnOk result (IsSmall self.new) }
     {
@@ -141,8 +145,13 @@ fn first_line_len(text: &[u8]) -> usize
 /// The tokens of a text, in order. Fails at the first fault of the text.
 pub fn lex<'s>(alloc: Global, text: &'s [u8]) -> Result<Vec<Token<'s>>, LexError>
     requires { length text.now ≤ 1048576 }
-    ensures ok { IfOk result (λ v. tokens_of text.now ≡ Ok (map seen_token v.items)) }
-    ensures err { IfErr result (λ e. e ≢ NoMemory → tokens_of text.now ≡ Err e) }
+    // The text is cut into pieces, and these are the tokens among them.
+    ensures tokens { IfOk result (λ v. HasTokens text.now (Ok (map seen_token v.items))) }
+    // This is where the text can be cut no further.
+    ensures fault { IfErr result (λ e. e ≢ NoMemory → HasTokens text.now (Err e)) }
+    // The same, computed.
+    ensures computed { IfOk result (λ v. tokens_of text.now ≡ Ok (map seen_token v.items)) }
+    ensures computed_fault { IfErr result (λ e. e ≢ NoMemory → tokens_of text.now ≡ Err e) }
 {
     let mut reader = Reader {
         at: 0,
