@@ -4,4 +4,5 @@ pub mod LongestLemmas
 pub mod NameLemmas
 pub mod OrderLemmas
 pub mod ReadingLemmas
+pub mod SignLemmas
 pub mod StringLemmas

@@ -1,5 +1,6 @@
 -- Signs.
-use Rattle.std.specs.Prelude.{ℕ, Bool, ◌||◌, ◌==◌, List, slice_index, if◌then◌else◌}
+use Rattle.std.specs.Prelude.{ℕ, Bool, ◌||◌, ◌==◌, List, [], ◌∷◌, codes, slice_index, if◌then◌else◌}
+use Rattle.luau_lex.specs.Names.{is_listed}
 use Rattle.luau_lex.specs.Bytes.{dot, slash, equals, colon, minus}
 
 -- what an equals sign may follow, to make a longer sign: + * % ^ = < >
@@ -26,3 +27,16 @@ sign_len_of a b c =
 -- the length of the longest sign at the front, or 0
 abbrev pub sign_len : List ℕ → ℕ
 sign_len text = sign_len_of (slice_index text 0) (slice_index text 1) (slice_index text 2)
+
+-- all signs
+abbrev pub signs : List (List ℕ)
+signs =
+    codes "+" ∷ codes "-" ∷ codes "*" ∷ codes "/" ∷ codes "//" ∷ codes "%" ∷ codes "^" ∷ codes "#" ∷
+    codes "==" ∷ codes "~=" ∷ codes "<=" ∷ codes ">=" ∷ codes "<" ∷ codes ">" ∷ codes "=" ∷ codes "+=" ∷
+    codes "-=" ∷ codes "*=" ∷ codes "/=" ∷ codes "//=" ∷ codes "%=" ∷ codes "^=" ∷ codes "..=" ∷ codes "(" ∷
+    codes ")" ∷ codes "{" ∷ codes "}" ∷ codes "[" ∷ codes "]" ∷ codes "::" ∷ codes ";" ∷ codes ":" ∷
+    codes "," ∷ codes "." ∷ codes ".." ∷ codes "..." ∷ codes "->" ∷ codes "?" ∷ codes "|" ∷ codes "&" ∷
+    codes "@" ∷ []
+
+abbrev pub is_sign : List ℕ → Bool
+is_sign bytes = is_listed bytes signs

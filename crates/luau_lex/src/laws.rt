@@ -1,9 +1,10 @@
 //! What follows from the token grammar: laws of the definitions alone, for every text.
-ghost use Rattle.std.specs.Prelude.{◌≡◌, ◌≢◌, ℕ, ◌<◌, ◌≤◌, ◌&&◌, true, false, List, Result, Ok, Some, drop, length, slice_index};
+ghost use Rattle.std.specs.Prelude.{◌≡◌, ◌≢◌, ℕ, ◌<◌, ◌≤◌, ◌&&◌, true, false, List, Result, Ok, Some, take, drop, length, slice_index};
 ghost use Rattle.std.specs.List.{prefix_len};
 ghost use Rattle.luau_lex.specs.declared.token.LexError.{LexError};
 ghost use Rattle.luau_lex.specs.Bytes.{is_blank, is_name_start, is_name_byte};
 ghost use Rattle.luau_lex.specs.Brackets.{closes, closing_place};
+ghost use Rattle.luau_lex.specs.Signs.{sign_len, is_sign};
 ghost use Rattle.luau_lex.specs.Tokens.{Tok, tokens_of};
 ghost use Rattle.luau_lex.specs.Grammar.{HasTokens, StandInOrder, Longest, is_blanks, is_name};
 
@@ -41,4 +42,11 @@ pub fn brackets_close_first()
         closes signs (drop place text) ≡ true }
     ensures not_before { (signs place k : ℕ) (text : List ℕ) → closing_place signs text ≡ Some place →
         k < place → closes signs (drop k text) ≡ false }
+{}
+
+/// A sign is as long as it can be, and where none is read, none of the table stands.
+pub fn signs_are_longest()
+    ensures longest { (text : List ℕ) → 0 < sign_len text → Longest is_sign text (sign_len text) }
+    ensures none { (text : List ℕ) (m : ℕ) → sign_len text ≡ 0 → 0 < m → m ≤ length text →
+        is_sign (take m text) ≡ false }
 {}
