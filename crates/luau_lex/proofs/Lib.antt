@@ -1,4 +1,5 @@
 pub mod BracketLemmas
+pub mod FormLemmas
 pub mod GrammarLemmas
 pub mod LongestLemmas
 pub mod NameLemmas

@@ -6,6 +6,7 @@ ghost use Rattle.luau_lex.specs.Bytes.{is_blank, is_name_start, is_name_byte};
 ghost use Rattle.luau_lex.specs.Brackets.{closes, closing_place};
 ghost use Rattle.luau_lex.specs.Signs.{sign_len, is_sign};
 ghost use Rattle.luau_lex.specs.Tokens.{Tok, tokens_of};
+ghost use Rattle.luau_lex.specs.Forms.{HaveForms};
 ghost use Rattle.luau_lex.specs.Grammar.{HasTokens, StandInOrder, Longest, is_blanks, is_name};
 
 /// A text has one list of tokens, or one first fault, and not both.
@@ -49,4 +50,9 @@ pub fn signs_are_longest()
     ensures longest { (text : List ℕ) → 0 < sign_len text → Longest is_sign text (sign_len text) }
     ensures none { (text : List ℕ) (m : ℕ) → sign_len text ≡ 0 → 0 < m → m ≤ length text →
         is_sign (take m text) ≡ false }
+{}
+
+/// Each token of a text has the form of its kind.
+pub fn tokens_have_their_forms()
+    ensures { (text : List ℕ) (ts : List Tok) → HasTokens text (Ok ts) → HaveForms ts }
 {}
