@@ -1,5 +1,5 @@
 -- Where a long bracket closes, by index.
-use Rattle.std.proofs.Common.{◌≡◌, ℕ, zero, suc, ◌+◌, ◌<◌, ◌≤◌, true, false, cond, List, [], ◌∷◌, length, drop, Bool, Option, subst, Some, None, ap, ◌∙◌, refl, arith}
+use Rattle.std.proofs.Common.{◌≡◌, ℕ, zero, suc, ◌<◌, true, false, cond, List, [], ◌∷◌, length, drop, Bool, Option, subst, Some, None, ap, ◌∙◌, refl, arith}
 use Rattle.std.specs.Prelude.{option_map}
 use Rattle.luau_lex.specs.Brackets.{closes, closing_place}
 

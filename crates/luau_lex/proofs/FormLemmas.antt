@@ -1,5 +1,5 @@
 -- Each token that stands in a text has the form of its kind.
-use Rattle.std.proofs.Common.{◌≡◌, ℕ, zero, suc, ◌+◌, ◌-◌, ◌*◌, ◌<◌, ◌≤◌, Bool, true, false, ◌&&◌, ◌||◌, ◌⊎◌, inl, inr, nat_eq, eqb, nat_lt, cond, List, [], ◌∷◌, ◌++◌, length, take, drop, get_or, slice_index, replicate, Result, Ok, Err, Option, Some, None, sym, refl, ap, subst, ◌∙◌, arith, append_assoc, add-zero}
+use Rattle.std.proofs.Common.{◌≡◌, ℕ, zero, suc, ◌+◌, ◌<◌, ◌≤◌, Bool, true, false, ◌&&◌, ◌||◌, inl, inr, eqb, cond, List, [], ◌∷◌, ◌++◌, length, take, drop, get_or, slice_index, replicate, Result, Ok, Err, Option, Some, None, sym, refl, ap, subst, ◌∙◌, arith}
 use Rattle.std.specs.List.{prefix_len}
 use Rattle.std.specs.Char.{is_ascii_digit}
 use Rattle.std.proofs.str.Laws.{order}
@@ -9,26 +9,26 @@ use Rattle.std.proofs.lemmas.List.{take_more, get_or_past}
 use Rattle.luau_lex.specs.declared.token.Kind.{Kind}
 use Rattle.luau_lex.specs.declared.token.Kind.TheVariants.{Name, Word, Numeral, Quoted, Long, Whole, Begin, Mid, End, Sign}
 use Rattle.luau_lex.specs.declared.token.LexError.{LexError}
-use Rattle.luau_lex.specs.declared.token.LexError.TheVariants.{UnfinishedString, UnfinishedComment, BadEscape, BadNumeral, StrayByte, DoubleBrace}
+use Rattle.luau_lex.specs.declared.token.LexError.TheVariants.{UnfinishedString, BadNumeral, StrayByte, DoubleBrace}
 use Rattle.luau_lex.specs.declared.piece.Piece.{Piece}
 use Rattle.luau_lex.specs.declared.piece.Piece.TheVariants.{Gap, Found, Faulty}
 use Rattle.luau_lex.specs.declared.piece.Open.{Open}
-use Rattle.luau_lex.specs.Bytes.{equals, bracket, closing_bracket, double_quote, single_quote, minus, backquote, brace, closing_brace, dot, is_blank, is_name_start, is_name_byte, is_no_line_feed, is_numeral_byte}
+use Rattle.luau_lex.specs.Bytes.{equals, bracket, closing_bracket, double_quote, single_quote, minus, backquote, brace, closing_brace, dot, is_blank, is_name_start, is_name_byte, is_numeral_byte}
 use Rattle.luau_lex.specs.Names.{is_listed, reserved_words, name_kind}
-use Rattle.luau_lex.specs.Numerals.{begins_numeral, numeral_len, exponent_len, is_numeral}
-use Rattle.luau_lex.specs.Signs.{sign_len, is_sign}
+use Rattle.luau_lex.specs.Numerals.{begins_numeral, numeral_len, is_numeral}
+use Rattle.luau_lex.specs.Signs.{sign_len}
 use Rattle.luau_lex.specs.Brackets.{level, closes, closing_place, equals_len}
 use Rattle.luau_lex.specs.Strings.{inside_len, malformed_at}
 use Rattle.luau_lex.specs.Pieces.{name_piece, numeral_piece, unless_malformed, quoted_piece, part_piece, long_len, long_of, long_piece, long_comment_of, comment_of, comment_piece, sign_piece, bracket_or_sign, part_open, innermost, closing_piece, other_piece, piece, opens_behind}
 use Rattle.luau_lex.specs.Tokens.{Tok, token_at, with_token, first_line_len}
-use Rattle.luau_lex.specs.Grammar.{StandsHere, Reads, HasTokens, is_name}
+use Rattle.luau_lex.specs.Grammar.{Reads, HasTokens, is_name}
 use Rattle.luau_lex.specs.Forms.{IsMarked, bracket_of, HasForm, HaveForms}
 use Rattle.luau_lex.proofs.BracketLemmas.{closes_there}
 use Rattle.luau_lex.proofs.LongestLemmas.{name_longest, run_some}
 use Rattle.luau_lex.proofs.SignLemmas.{sign_longest}
 
 -- which way a choice went
-choose : {C : Type 0} (t : Bool) (x y z : Piece) → cond t x y ≡ z → (t ≡ true → x ≡ z → C) → (t ≡ false → y ≡ z → C) → C
+pub choose : {C : Type 0} (t : Bool) (x y z : Piece) → cond t x y ≡ z → (t ≡ true → x ≡ z → C) → (t ≡ false → y ≡ z → C) → C
 choose true x y z h f g = f refl h
 choose false x y z h f g = g refl h
 
@@ -37,7 +37,7 @@ unless_found at None p kind n h f = f refl h
 unless_found at (Some k) p kind n h f = absurd (cc)
 
 -- a form, told of an equal kind and length
-form_at : (k kind : Kind) (n m : ℕ) (text : List ℕ) → Found k n ≡ Found kind m → HasForm k (take n text) → HasForm kind (take m text)
+pub form_at : (k kind : Kind) (n m : ℕ) (text : List ℕ) → Found k n ≡ Found kind m → HasForm k (take n text) → HasForm kind (take m text)
 form_at k kind n m text is h =
     let same_kind : k ≡ kind = cc in
     let same_len : n ≡ m = cc in
@@ -137,7 +137,7 @@ run_at b x xs (suc n) true is more h =
 run_at b x xs zero false is more h = refl
 run_at b x xs (suc n) false is more h = absurd (omega (arith, h))
 
-run_of : (b : ℕ) (xs : List ℕ) (n : ℕ) → prefix_len (λ x. eqb x b) xs ≡ n → take n xs ≡ replicate n b
+pub run_of : (b : ℕ) (xs : List ℕ) (n : ℕ) → prefix_len (λ x. eqb x b) xs ≡ n → take n xs ≡ replicate n b
 run_of b [] zero h = refl
 run_of b [] (suc n) h = absurd (omega (arith, h))
 run_of b (x ∷ xs) n h = run_at b x xs n (eqb x b) refl (λ k. run_of b xs k) h
@@ -161,11 +161,11 @@ opened m signs text run true h is =
     (λ first last. subst (λ k. take (k + 2) text ≡ bracket_of bracket k) same (bracketed bracket m text (omega arith) (eqb-true _ _ first) run (eqb-true _ _ last)))
 opened m signs text run false h is = absurd (cc)
 
-opens_front : (signs : ℕ) (text : List ℕ) → level text ≡ Some signs → take (signs + 2) text ≡ bracket_of bracket signs
+pub opens_front : (signs : ℕ) (text : List ℕ) → level text ≡ Some signs → take (signs + 2) text ≡ bracket_of bracket signs
 unfolding level
 opens_front signs text is = opened (equals_len (drop 1 text)) signs text refl _ refl is
 
-closes_front : (signs : ℕ) (text : List ℕ) → closes signs text ≡ true → take (signs + 2) text ≡ bracket_of closing_bracket signs
+pub closes_front : (signs : ℕ) (text : List ℕ) → closes signs text ≡ true → take (signs + 2) text ≡ bracket_of closing_bracket signs
 unfolding closes
 closes_front signs text h =
     and_at (eqb (slice_index text 0) closing_bracket) (eqb (equals_len (drop 1 text)) signs && eqb (slice_index (drop 1 text) signs) closing_bracket) h

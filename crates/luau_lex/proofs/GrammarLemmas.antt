@@ -1,11 +1,11 @@
 -- How a text is cut into pieces, and what that computes.
-use Rattle.std.proofs.Common.{◌≡◌, ℕ, zero, suc, ◌+◌, ◌-◌, ◌<◌, ◌≤◌, List, [], ◌∷◌, ◌++◌, length, take, drop, slice_index, Result, Ok, Err, map, sym, refl, ap, subst, ◌∙◌, arith, append_assoc, zero-add, add-zero}
+use Rattle.std.proofs.Common.{◌≡◌, ℕ, ◌+◌, List, [], ◌∷◌, ◌++◌, drop, slice_index, Result, Err, sym, refl, ap, subst, ◌∙◌, zero-add}
 use Rattle.luau_lex.specs.declared.token.Kind.{Kind}
 use Rattle.luau_lex.specs.declared.token.LexError.{LexError}
 use Rattle.luau_lex.specs.declared.piece.Piece.{Piece}
 use Rattle.luau_lex.specs.declared.piece.Piece.TheVariants.{Gap, Found, Faulty}
 use Rattle.luau_lex.specs.declared.piece.Open.{Open}
-use Rattle.luau_lex.specs.Pieces.{piece, innermost, opens_behind}
+use Rattle.luau_lex.specs.Pieces.{opens_behind}
 use Rattle.luau_lex.specs.Tokens.{Tok, token_at, with_token, tokens_from, tokens_of, first_line_len}
 use Rattle.luau_lex.specs.Grammar.{StandsHere, Reads, HasTokens}
 use Rattle.luau_lex.specs.Reading.{with_tokens}

@@ -1,5 +1,6 @@
 pub mod BracketLemmas
 pub mod FormLemmas
+pub mod GapLemmas
 pub mod GrammarLemmas
 pub mod LongestLemmas
 pub mod NameLemmas

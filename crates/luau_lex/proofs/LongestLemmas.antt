@@ -1,11 +1,8 @@
 -- The longest run of bytes of a class, and the order of tokens.
-use Rattle.std.proofs.Common.{◌≡◌, ℕ, zero, suc, ◌+◌, ◌-◌, ◌<◌, ◌≤◌, Bool, true, false, ◌&&◌, nat_lt, cond, List, [], ◌∷◌, ◌++◌, length, take, drop, get_or, slice_index, Result, Ok, Err, Option, Some, None, sym, refl, ap, subst, ◌∙◌, arith, lt-ltb, length-take-le, length-drop, add-zero}
+use Rattle.std.proofs.Common.{◌≡◌, ℕ, zero, suc, ◌+◌, ◌<◌, ◌≤◌, Bool, true, false, ◌&&◌, nat_lt, cond, List, [], ◌∷◌, length, take, get_or, slice_index, refl, ap, ◌∙◌, arith, lt-ltb, length-take-le}
 use Rattle.std.specs.List.{prefix_len, list_all}
-use Rattle.std.proofs.lemmas.List.{drop-drop}
 use Rattle.std.proofs.lemmas.List.Sums.{prefix_len-le-length}
-use Rattle.luau_tree.specs.declared.position.Span.{Span}
 use Rattle.luau_lex.specs.Bytes.{is_blank, is_name_start, is_name_byte}
-use Rattle.luau_lex.specs.Brackets.{closes, closing_place}
 use Rattle.luau_lex.specs.Grammar.{Longest, is_blanks, is_name}
 
 run_all_at : (p : ℕ → Bool) (x : ℕ) (xs : List ℕ) (b : Bool) → p x ≡ b → list_all p (take (prefix_len p xs) xs) ≡ true → list_all p (take (cond b (1 + prefix_len p xs) 0) (x ∷ xs)) ≡ true

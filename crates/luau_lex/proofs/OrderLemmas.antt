@@ -1,9 +1,8 @@
 -- The tokens of a text stand in order.
-use Rattle.std.proofs.Common.{◌≡◌, ℕ, zero, suc, ◌+◌, ◌-◌, ◌<◌, ◌≤◌, Bool, true, false, cond, List, [], ◌∷◌, ◌++◌, length, take, drop, slice_index, Result, Ok, Err, sym, refl, ap, subst, ◌∙◌, arith, length-drop}
+use Rattle.std.proofs.Common.{◌≡◌, ℕ, ◌+◌, ◌-◌, ◌≤◌, Bool, true, false, cond, List, [], ◌∷◌, length, take, drop, slice_index, Result, Ok, Err, sym, refl, ap, subst, ◌∙◌, arith, length-drop}
 use Rattle.std.proofs.lemmas.List.{drop-drop}
 use Rattle.std.proofs.lemmas.List.Sums.{prefix_len-le-length}
 use Rattle.luau_lex.specs.Bytes.{is_no_line_feed}
-use Rattle.luau_tree.specs.declared.position.Span.{Span}
 use Rattle.luau_lex.specs.declared.token.Kind.{Kind}
 use Rattle.luau_lex.specs.declared.token.LexError.{LexError}
 use Rattle.luau_lex.specs.declared.piece.Piece.{Piece}
@@ -11,10 +10,10 @@ use Rattle.luau_lex.specs.declared.piece.Piece.TheVariants.{Gap, Found, Faulty}
 use Rattle.luau_lex.specs.declared.piece.Open.{Open}
 use Rattle.luau_lex.specs.Pieces.{opens_behind}
 use Rattle.luau_lex.specs.Tokens.{Tok, token_at, with_token, first_line_len}
-use Rattle.luau_lex.specs.Grammar.{StandsHere, Reads, HasTokens, StandInOrder}
+use Rattle.luau_lex.specs.Grammar.{Reads, HasTokens, StandInOrder}
 
 -- what is left behind n bytes, from a place behind them
-left_behind : (at n place : ℕ) (text : List ℕ) → at + n ≤ place → drop (place - (at + n)) (drop n text) ≡ drop (place - at) text
+pub left_behind : (at n place : ℕ) (text : List ℕ) → at + n ≤ place → drop (place - (at + n)) (drop n text) ≡ drop (place - at) text
 left_behind at n place text h =
     let same : n + (place - (at + n)) ≡ place - at = omega arith in
     drop-drop (place - (at + n)) n text ∙ ap (λ k. drop k text) same

@@ -1,5 +1,5 @@
 -- Reading a text piece by piece.
-use Rattle.std.proofs.Common.{◌≡◌, ℕ, zero, suc, ◌+◌, ◌-◌, ◌<◌, ◌≤◌, List, [], ◌∷◌, ◌++◌, length, drop, slice_index, Result, Ok, Err, sym, refl, ap, ◌∙◌, arith, append_assoc, zero-add, add-zero}
+use Rattle.std.proofs.Common.{◌≡◌, ℕ, zero, suc, ◌+◌, ◌-◌, ◌<◌, ◌≤◌, List, [], ◌∷◌, ◌++◌, length, drop, slice_index, Result, Ok, Err, sym, refl, ap, ◌∙◌, arith, append_assoc, add-zero}
 use Rattle.luau_lex.specs.declared.token.Kind.{Kind}
 use Rattle.luau_lex.specs.declared.token.LexError.{LexError}
 use Rattle.luau_lex.specs.declared.piece.Piece.{Piece}

@@ -1,9 +1,7 @@
 -- The signs of the table are those that are read, and the longest is read.
-use Rattle.std.proofs.Common.{◌≡◌, ℕ, zero, suc, ◌+◌, ◌<◌, ◌≤◌, Bool, true, false, ◌&&◌, ◌||◌, nat_eq, eqb, nat_le, cond, List, [], ◌∷◌, length, take, slice_index, sym, refl, ap, subst, ◌∙◌, arith, le-leb}
+use Rattle.std.proofs.Common.{◌≡◌, ℕ, zero, suc, ◌<◌, ◌≤◌, Bool, true, false, ◌&&◌, eqb, nat_le, cond, List, [], ◌∷◌, length, take, slice_index, sym, refl, ap, subst, ◌∙◌, arith, le-leb}
 use Rattle.std.proofs.lemmas.Bool.{leb-true}
-use Rattle.std.specs.List.{list_all}
-use Rattle.luau_lex.specs.Names.{same_bytes, is_listed}
-use Rattle.luau_lex.specs.Signs.{sign_len, sign_len_of, signs, is_sign}
+use Rattle.luau_lex.specs.Signs.{sign_len, sign_len_of, is_sign}
 use Rattle.luau_lex.specs.Grammar.{Longest}
 
 -- the longest sign that is listed among these three fronts

@@ -1,5 +1,5 @@
 -- The inside of a string, from one element to the next.
-use Rattle.std.proofs.Common.{◌≡◌, ℕ, zero, suc, ◌+◌, ◌-◌, ◌*◌, ◌<◌, ◌≤◌, Bool, true, false, cond, List, [], ◌∷◌, ◌++◌, length, get_or, drop, Option, Some, None, sym, refl, ap, subst, ◌∙◌, arith, append_assoc, add-zero, zero-add, length-drop, get_or-drop}
+use Rattle.std.proofs.Common.{◌≡◌, ℕ, zero, suc, ◌+◌, ◌-◌, ◌*◌, ◌<◌, ◌≤◌, true, false, cond, List, [], ◌∷◌, ◌++◌, length, get_or, drop, Option, Some, None, sym, refl, ap, ◌∙◌, arith, append_assoc, add-zero, zero-add, length-drop, get_or-drop}
 use Rattle.std.proofs.lemmas.List.{drop-drop}
 use Rattle.luau_lex.specs.declared.elements.Parsed.{Parsed}
 use Rattle.std.specs.Prelude.{option_map, unwrap_or, is_some, is_none}

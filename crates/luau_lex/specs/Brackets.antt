@@ -1,5 +1,5 @@
 -- Long brackets.
-use Rattle.std.specs.Prelude.{ℕ, Bool, true, false, ◌+◌, ◌&&◌, ◌==◌, List, [], ◌∷◌, drop, slice_index, if◌then◌else◌, Option, Some, None, option_map, suc}
+use Rattle.std.specs.Prelude.{ℕ, Bool, ◌&&◌, ◌==◌, List, [], ◌∷◌, drop, slice_index, if◌then◌else◌, Option, Some, None, option_map, suc}
 use Rattle.std.specs.List.{prefix_len}
 use Rattle.luau_lex.specs.Bytes.{equals, bracket, closing_bracket}
 

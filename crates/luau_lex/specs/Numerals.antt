@@ -1,5 +1,5 @@
 -- Numerals: how far the word of one goes, and which words are numerals.
-use Rattle.std.specs.Prelude.{ℕ, Bool, true, false, ◌+◌, ◌&&◌, ◌||◌, ◌==◌, nat_lt, nat_eq, List, [], ◌∷◌, length, drop, slice_index, if◌then◌else◌}
+use Rattle.std.specs.Prelude.{ℕ, Bool, true, ◌+◌, ◌&&◌, ◌||◌, ◌==◌, List, length, drop, slice_index, if◌then◌else◌}
 use Rattle.std.specs.List.{prefix_len, list_any}
 use Rattle.std.specs.Char.{is_ascii_digit, is_ascii_hexdigit}
 use Rattle.luau_lex.specs.Bytes.{dot, is_digit_or_line, is_numeral_byte, is_name_byte, is_hex_or_line, is_binary_or_line}

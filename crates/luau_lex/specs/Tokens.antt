@@ -1,5 +1,5 @@
 -- The tokens of a whole text.
-use Rattle.std.specs.Prelude.{ℕ, zero, suc, ◌+◌, ◌-◌, ◌≤◌, ◌&&◌, ◌==◌, List, [], ◌∷◌, length, take, slice_index, if◌then◌else◌, Result, Ok, Err}
+use Rattle.std.specs.Prelude.{ℕ, zero, suc, ◌+◌, ◌-◌, ◌≤◌, ◌&&◌, ◌==◌, List, [], ◌∷◌, take, slice_index, if◌then◌else◌, Result, Ok, Err}
 use Rattle.std.specs.List.{prefix_len}
 use Rattle.luau_tree.specs.declared.position.Span.{Span}
 use Rattle.luau_lex.specs.declared.token.Kind.{Kind}

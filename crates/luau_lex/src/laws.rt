@@ -5,8 +5,8 @@ ghost use Rattle.luau_lex.specs.declared.token.LexError.{LexError};
 ghost use Rattle.luau_lex.specs.Bytes.{is_blank, is_name_start, is_name_byte};
 ghost use Rattle.luau_lex.specs.Brackets.{closes, closing_place};
 ghost use Rattle.luau_lex.specs.Signs.{sign_len, is_sign};
-ghost use Rattle.luau_lex.specs.Tokens.{Tok, tokens_of};
-ghost use Rattle.luau_lex.specs.Forms.{HaveForms};
+ghost use Rattle.luau_lex.specs.Tokens.{Tok, tokens_of, first_line_len};
+ghost use Rattle.luau_lex.specs.Forms.{HaveForms, StandApart};
 ghost use Rattle.luau_lex.specs.Grammar.{HasTokens, StandInOrder, Longest, is_blanks, is_name};
 
 /// A text has one list of tokens, or one first fault, and not both.
@@ -55,4 +55,11 @@ pub fn signs_are_longest()
 /// Each token of a text has the form of its kind.
 pub fn tokens_have_their_forms()
     ensures { (text : List ℕ) (ts : List Tok) → HasTokens text (Ok ts) → HaveForms ts }
+{}
+
+/// Blanks and comments alone stand before each token, and behind the last. A first line that begins with `#!`
+/// is left out.
+pub fn gaps_are_blanks_and_comments()
+    ensures { (text : List ℕ) (ts : List Tok) → HasTokens text (Ok ts) →
+        StandApart (first_line_len text) (drop (first_line_len text) text) ts }
 {}

@@ -142,7 +142,10 @@ fn first_line_len(text: &[u8]) -> usize
     }
 }
 
-/// The tokens of a text, in order. Fails at the first fault of the text.
+/// The tokens of a text of at most 1,048,576 bytes, in order. Comments and blanks are left out. The rules are in
+/// `docs/LANGUAGE.md`, "Tokens".
+///
+/// Fails at the first fault of the text, which has no tokens then, or where memory runs out.
 pub fn lex<'s>(alloc: Global, text: &'s [u8]) -> Result<Vec<Token<'s>>, LexError>
     requires { length text.now ≤ 1048576 }
     // The text is cut into pieces, and these are the tokens among them.

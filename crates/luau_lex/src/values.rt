@@ -132,7 +132,8 @@ fn marked_value(alloc: Global, bytes: &[u8]) -> Result<Vec<u8>, AllocError>
     value_of_inside(alloc, between_marks(1, bytes))
 }
 
-/// The bytes that a string, or a part of an interpolated string, stands for, without its marks.
+/// The bytes that a string, or a part of an interpolated string, stands for, without its marks. The token is one
+/// that `lex` gave, and of such a kind. The rules are in `docs/LANGUAGE.md`, "Tokens".
 pub fn value_of(alloc: Global, token: &Token<'_>) -> Result<Bytes, AllocError>
     ensures { IfOk result (λ v. v ≡ string_value token.now.kind token.now.text.now) }
 {

@@ -1,4 +1,4 @@
-use Rattle.std.proofs.Common.{sym, arith, rules}
+use Rattle.std.proofs.Common.{sym, arith}
 use Rattle.luau_lex.proofs.NameLemmas.{same_bytes_yes, same_bytes_no, same_bytes_length}
 use Rattle.luau_lex.proofs.names.same_bytes.Goals as goal
 

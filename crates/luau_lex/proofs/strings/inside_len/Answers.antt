@@ -1,4 +1,4 @@
-use Rattle.std.proofs.Common.{sym, ap, ◌∙◌, arith}
+use Rattle.std.proofs.Common.{arith}
 use Rattle.std.proofs.lemmas.Slice.{between_to_end}
 use Rattle.luau_lex.proofs.StringLemmas.{inside_more, fits_left}
 use Rattle.luau_lex.proofs.strings.inside_len.Goals as goal

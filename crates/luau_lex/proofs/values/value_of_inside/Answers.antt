@@ -1,4 +1,4 @@
-use Rattle.std.proofs.Common.{sym, ap, ◌∙◌, arith}
+use Rattle.std.proofs.Common.{arith}
 use Rattle.std.proofs.lemmas.Slice.{between_to_end}
 use Rattle.luau_lex.proofs.StringLemmas.{value_more, fits_left}
 use Rattle.luau_lex.proofs.values.value_of_inside.Goals as goal

@@ -1,7 +1,7 @@
-use Rattle.std.proofs.Common.{◌≡◌, OnOk, Result, Ok, Err, sym, ap, ◌∙◌, map, arith}
+use Rattle.std.proofs.Common.{OnOk, Result, Ok, Err, sym, ap, ◌∙◌, map}
 use Rattle.luau_lex.specs.Pieces.{piece}
 use Rattle.luau_lex.specs.Tokens.{seen_token, tokens_from}
-use Rattle.luau_lex.specs.Grammar.{StandsHere, Reads, HasTokens}
+use Rattle.luau_lex.specs.Grammar.{StandsHere}
 use Rattle.luau_lex.specs.Reading.{with_tokens}
 use Rattle.luau_lex.specs.declared.piece.Piece.TheVariants.{Gap, Found, Faulty}
 use Rattle.luau_lex.proofs.GrammarLemmas.{gap_has, found_has, fault_has}
