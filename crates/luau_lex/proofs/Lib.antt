@@ -1,0 +1,10 @@
+pub mod BracketLemmas
+pub mod FormLemmas
+pub mod GapLemmas
+pub mod GrammarLemmas
+pub mod LongestLemmas
+pub mod NameLemmas
+pub mod OrderLemmas
+pub mod ReadingLemmas
+pub mod SignLemmas
+pub mod StringLemmas

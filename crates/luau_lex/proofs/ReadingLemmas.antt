@@ -1,0 +1,71 @@
+-- Reading a text piece by piece.
+use Rattle.std.proofs.Common.{◌≡◌, ℕ, zero, suc, ◌+◌, ◌-◌, ◌<◌, ◌≤◌, List, [], ◌∷◌, ◌++◌, length, drop, slice_index, Result, Ok, Err, sym, refl, ap, ◌∙◌, arith, append_assoc, add-zero}
+use Rattle.luau_lex.specs.declared.token.Kind.{Kind}
+use Rattle.luau_lex.specs.declared.token.LexError.{LexError}
+use Rattle.luau_lex.specs.declared.piece.Piece.{Piece}
+use Rattle.luau_lex.specs.declared.piece.Piece.TheVariants.{Gap, Found, Faulty}
+use Rattle.luau_lex.specs.declared.piece.Open.{Open}
+use Rattle.luau_lex.specs.Pieces.{piece, innermost, opens_behind}
+use Rattle.luau_lex.specs.Tokens.{Tok, token_at, with_token, behind, tokens_from}
+use Rattle.luau_lex.specs.Reading.{with_tokens}
+
+-- the bytes of a piece that has begun are passed over
+pub tokens_skip : (opens : List Open) (begun at : ℕ) (text : List ℕ) → tokens_from opens begun at text ≡ tokens_from opens 0 (at + begun) (drop begun text)
+tokens_skip opens zero at text = ap (λ n. tokens_from opens 0 n text) (sym (add-zero at))
+tokens_skip opens (suc begun) at [] = refl
+tokens_skip opens (suc begun) at (b ∷ text) =
+    let same : at + 1 + begun ≡ at + suc begun = omega arith in
+    tokens_skip opens begun (at + 1) text ∙ ap (λ n. tokens_from opens 0 n (drop begun text)) same
+
+-- what a piece at the front, and what is left behind it, give
+pub piece_then : (opens : List Open) (at : ℕ) (text : List ℕ) (p : Piece) → 0 < length text → piece (innermost opens) at text ≡ p → tokens_from opens 0 at text ≡ behind p opens at text (λ opens' begun. tokens_from opens' begun (at + 1) (drop 1 text))
+piece_then opens at [] p some is = absurd (omega arith)
+piece_then opens at (b ∷ text) p some is = ap (λ q. behind q opens at (b ∷ text) (λ opens' begun. tokens_from opens' begun (at + 1) text)) is
+
+-- a piece of n bytes is passed over
+pub behind_piece : (opens : List Open) (n at : ℕ) (text : List ℕ) → 1 ≤ n → 0 < length text → tokens_from opens (n - 1) (at + 1) (drop 1 text) ≡ tokens_from opens 0 (at + n) (drop n text)
+behind_piece opens n at [] least some = absurd (omega arith)
+behind_piece opens zero at (b ∷ text) least some = absurd (omega arith)
+behind_piece opens (suc n) at (b ∷ text) least some =
+    let less : suc n - 1 ≡ n = omega arith in
+    let same : at + 1 + n ≡ at + suc n = omega arith in
+    ap (λ k. tokens_from opens k (at + 1) text) less ∙ tokens_skip opens n (at + 1) text ∙ ap (λ k. tokens_from opens 0 k (drop n text)) same
+
+pub gap_read : (opens : List Open) (n at : ℕ) (text : List ℕ) → 1 ≤ n → 0 < length text → piece (innermost opens) at text ≡ Gap n → tokens_from opens 0 at text ≡ tokens_from opens 0 (at + n) (drop n text)
+gap_read opens n at text least some is = piece_then opens at text (Gap n) some is ∙ behind_piece opens n at text least some
+
+pub found_read : (opens : List Open) (kind : Kind) (n at : ℕ) (text : List ℕ) → 1 ≤ n → 0 < length text → piece (innermost opens) at text ≡ Found kind n → tokens_from opens 0 at text ≡ with_token (token_at kind n at text) (tokens_from (opens_behind opens at kind (slice_index text 0)) 0 (at + n) (drop n text))
+found_read opens kind n at text least some is =
+    piece_then opens at text (Found kind n) some is
+    ∙ ap (with_token (token_at kind n at text)) (behind_piece (opens_behind opens at kind (slice_index text 0)) n at text least some)
+
+pub fault_read : (opens : List Open) (e : LexError) (at : ℕ) (text : List ℕ) → 0 < length text → piece (innermost opens) at text ≡ Faulty e → tokens_from opens 0 at text ≡ Err e
+fault_read opens e at text some is = piece_then opens at text (Faulty e) some is
+
+-- a token found joins those that were found before
+pub with_one_more : (ts : List Tok) (t : Tok) (r : Result (List Tok) LexError) → with_tokens ts (with_token t r) ≡ with_tokens (ts ++ t ∷ []) r
+with_one_more ts t (Ok us) = ap Ok (sym (append_assoc ts (t ∷ []) us))
+with_one_more ts t (Err e) = refl
+
+-- no tokens before a text's tokens
+pub with_none : (r : Result (List Tok) LexError) → with_tokens [] r ≡ r
+with_none (Ok us) = refl
+with_none (Err e) = refl
+
+-- a turn that passes over a gap
+pub gap_turn : (ts : List Tok) (opens opens' : List Open) (n at at' : ℕ) (text text' : List ℕ) → 1 ≤ n → 0 < length text → piece (innermost opens) at text ≡ Gap n → opens' ≡ opens → at' ≡ at + n → text' ≡ drop n text → with_tokens ts (tokens_from opens' 0 at' text') ≡ with_tokens ts (tokens_from opens 0 at text)
+gap_turn ts opens opens' n at at' text text' least some is same_opens same_at same_text =
+    ap (with_tokens ts) (ap (λ o. tokens_from o 0 at' text') same_opens ∙ ap (λ k. tokens_from opens 0 k text') same_at ∙ ap (tokens_from opens 0 (at + n)) same_text ∙ sym (gap_read opens n at text least some is))
+
+-- a turn that takes a token
+pub found_turn : (ts ts' : List Tok) (opens opens' : List Open) (kind : Kind) (n at at' : ℕ) (text text' : List ℕ) → 1 ≤ n → 0 < length text → piece (innermost opens) at text ≡ Found kind n → opens' ≡ opens_behind opens at kind (slice_index text 0) → at' ≡ at + n → text' ≡ drop n text → ts' ≡ ts ++ token_at kind n at text ∷ [] → with_tokens ts' (tokens_from opens' 0 at' text') ≡ with_tokens ts (tokens_from opens 0 at text)
+found_turn ts ts' opens opens' kind n at at' text text' least some is same_opens same_at same_text same_tokens =
+    let behind_it = opens_behind opens at kind (slice_index text 0) in
+    ap (λ t. with_tokens t (tokens_from opens' 0 at' text')) same_tokens
+    ∙ sym (with_one_more ts (token_at kind n at text) (tokens_from opens' 0 at' text'))
+    ∙ ap (λ r. with_tokens ts (with_token (token_at kind n at text) r)) (ap (λ o. tokens_from o 0 at' text') same_opens ∙ ap (λ k. tokens_from behind_it 0 k text') same_at ∙ ap (tokens_from behind_it 0 (at + n)) same_text)
+    ∙ ap (with_tokens ts) (sym (found_read opens kind n at text least some is))
+
+-- a turn that meets a fault
+pub fault_turn : (ts : List Tok) (opens : List Open) (e : LexError) (at : ℕ) (text : List ℕ) → 0 < length text → piece (innermost opens) at text ≡ Faulty e → with_tokens ts (tokens_from opens 0 at text) ≡ Err e
+fault_turn ts opens e at text some is = ap (with_tokens ts) (fault_read opens e at text some is)

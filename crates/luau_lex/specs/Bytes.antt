@@ -1,0 +1,99 @@
+-- The bytes that the token grammar speaks of, and their classes.
+use Rattle.std.specs.Prelude.{ℕ, Bool, ◌||◌, ◌&&◌, not, ◌==◌, nat_le}
+use Rattle.std.specs.Char.{is_ascii_digit, is_ascii_alphabetic, is_ascii_alphanumeric, is_ascii_hexdigit}
+use Rattle.luau_lex.specs.declared.bytes.Class.{Class}
+use Rattle.luau_lex.specs.declared.bytes.Class.TheVariants.{Blank, NameByte, DigitOrLine, NumeralByte, HexOrLine, BinaryOrLine, HexDigit, DecimalDigit, EqualsSign, NoLineFeed}
+
+abbrev pub line_feed : ℕ
+line_feed = 10
+
+abbrev pub carriage_return : ℕ
+carriage_return = 13
+
+abbrev pub double_quote : ℕ
+double_quote = 34
+
+abbrev pub number_sign : ℕ
+number_sign = 35
+
+abbrev pub single_quote : ℕ
+single_quote = 39
+
+abbrev pub minus : ℕ
+minus = 45
+
+abbrev pub dot : ℕ
+dot = 46
+
+abbrev pub slash : ℕ
+slash = 47
+
+abbrev pub colon : ℕ
+colon = 58
+
+abbrev pub equals : ℕ
+equals = 61
+
+abbrev pub bracket : ℕ
+bracket = 91
+
+abbrev pub backslash : ℕ
+backslash = 92
+
+abbrev pub closing_bracket : ℕ
+closing_bracket = 93
+
+abbrev pub underline : ℕ
+underline = 95
+
+abbrev pub backquote : ℕ
+backquote = 96
+
+abbrev pub brace : ℕ
+brace = 123
+
+abbrev pub closing_brace : ℕ
+closing_brace = 125
+
+-- space, tab, line feed, vertical tab, form feed and carriage return
+abbrev pub is_blank : ℕ → Bool
+is_blank b = (b == 32) || (nat_le 9 b && nat_le b 13)
+
+-- what a name begins with: an ASCII letter or an underline
+abbrev pub is_name_start : ℕ → Bool
+is_name_start b = is_ascii_alphabetic b || (b == underline)
+
+-- what a name goes on with: an ASCII letter, a digit or an underline
+abbrev pub is_name_byte : ℕ → Bool
+is_name_byte b = is_ascii_alphanumeric b || (b == underline)
+
+-- a digit, or the underline that may stand between digits
+abbrev pub is_digit_or_line : ℕ → Bool
+is_digit_or_line b = is_ascii_digit b || (b == underline)
+
+-- a digit, an underline or a dot
+abbrev pub is_numeral_byte : ℕ → Bool
+is_numeral_byte b = is_digit_or_line b || (b == dot)
+
+abbrev pub is_hex_or_line : ℕ → Bool
+is_hex_or_line b = is_ascii_hexdigit b || (b == underline)
+
+-- 0, 1 or an underline
+abbrev pub is_binary_or_line : ℕ → Bool
+is_binary_or_line b = ((b == 48) || (b == 49)) || (b == underline)
+
+abbrev pub is_no_line_feed : ℕ → Bool
+is_no_line_feed b = not (b == line_feed)
+
+-- what the program's classes of bytes contain
+abbrev pub has : Class → ℕ → Bool
+has Blank = is_blank
+has NameByte = is_name_byte
+has DigitOrLine = is_digit_or_line
+has NumeralByte = is_numeral_byte
+has HexOrLine = is_hex_or_line
+has BinaryOrLine = is_binary_or_line
+has HexDigit = is_ascii_hexdigit
+has DecimalDigit = is_ascii_digit
+has EqualsSign = λ b. b == equals
+has NoLineFeed = is_no_line_feed

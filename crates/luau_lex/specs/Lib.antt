@@ -1,0 +1,12 @@
+pub mod Bytes
+pub mod Names
+pub mod Numerals
+pub mod Signs
+pub mod Brackets
+pub mod Strings
+pub mod Pieces
+pub mod Tokens
+pub mod Values
+pub mod Reading
+pub mod Grammar
+pub mod Forms

@@ -1,0 +1,65 @@
+//! What follows from the token grammar: laws of the definitions alone, for every text.
+ghost use Rattle.std.specs.Prelude.{◌≡◌, ◌≢◌, ℕ, ◌<◌, ◌≤◌, ◌&&◌, true, false, List, Result, Ok, Some, take, drop, length, slice_index};
+ghost use Rattle.std.specs.List.{prefix_len};
+ghost use Rattle.luau_lex.specs.declared.token.LexError.{LexError};
+ghost use Rattle.luau_lex.specs.Bytes.{is_blank, is_name_start, is_name_byte};
+ghost use Rattle.luau_lex.specs.Brackets.{closes, closing_place};
+ghost use Rattle.luau_lex.specs.Signs.{sign_len, is_sign};
+ghost use Rattle.luau_lex.specs.Tokens.{Tok, tokens_of, first_line_len};
+ghost use Rattle.luau_lex.specs.Forms.{HaveForms, StandApart};
+ghost use Rattle.luau_lex.specs.Grammar.{HasTokens, StandInOrder, Longest, is_blanks, is_name};
+
+/// A text has one list of tokens, or one first fault, and not both.
+pub fn tokens_unique()
+    ensures { (text : List ℕ) (r s : Result (List Tok) LexError) →
+        HasTokens text r → HasTokens text s → r ≡ s }
+{}
+
+/// What a text has is what `tokens_of` computes.
+pub fn tokens_compute()
+    ensures { (text : List ℕ) (r : Result (List Tok) LexError) → HasTokens text r → tokens_of text ≡ r }
+{}
+
+/// The tokens of a text stand in order in it, each with the bytes at its place.
+pub fn tokens_in_order()
+    ensures { (text : List ℕ) (ts : List Tok) → HasTokens text (Ok ts) → StandInOrder 0 text ts }
+{}
+
+/// A name goes as far as it can.
+pub fn names_are_longest()
+    ensures { (text : List ℕ) → is_name_start (slice_index text 0) ≡ true →
+        Longest is_name text (prefix_len is_name_byte text) }
+{}
+
+/// Blanks go as far as they can.
+pub fn blanks_are_longest()
+    ensures { (text : List ℕ) → is_blank (slice_index text 0) ≡ true →
+        Longest is_blanks text (prefix_len is_blank text) }
+{}
+
+/// A long bracket closes at the first place where one of its level closes.
+pub fn brackets_close_first()
+    ensures closes { (signs place : ℕ) (text : List ℕ) → closing_place signs text ≡ Some place →
+        closes signs (drop place text) ≡ true }
+    ensures not_before { (signs place k : ℕ) (text : List ℕ) → closing_place signs text ≡ Some place →
+        k < place → closes signs (drop k text) ≡ false }
+{}
+
+/// A sign is as long as it can be, and where none is read, none of the table stands.
+pub fn signs_are_longest()
+    ensures longest { (text : List ℕ) → 0 < sign_len text → Longest is_sign text (sign_len text) }
+    ensures none { (text : List ℕ) (m : ℕ) → sign_len text ≡ 0 → 0 < m → m ≤ length text →
+        is_sign (take m text) ≡ false }
+{}
+
+/// Each token of a text has the form of its kind.
+pub fn tokens_have_their_forms()
+    ensures { (text : List ℕ) (ts : List Tok) → HasTokens text (Ok ts) → HaveForms ts }
+{}
+
+/// Blanks and comments alone stand before each token, and behind the last. A first line that begins with `#!`
+/// is left out.
+pub fn gaps_are_blanks_and_comments()
+    ensures { (text : List ℕ) (ts : List Tok) → HasTokens text (Ok ts) →
+        StandApart (first_line_len text) (drop (first_line_len text) text) ts }
+{}

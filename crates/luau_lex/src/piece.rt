@@ -1,0 +1,21 @@
+use crate::token::{Kind, LexError};
+
+/// What stands at a place of a text.
+#[derive(Debug, Drop)]
+pub enum Piece {
+    /// Blanks or a comment, of so many bytes.
+    Gap(usize),
+    /// A token of so many bytes.
+    Found(Kind, usize),
+    /// What begins here is no token.
+    Faulty(LexError),
+}
+
+/// A brace that is open.
+#[derive(Clone, Copy, Debug)]
+pub enum Open {
+    /// A brace that is a sign.
+    Brace,
+    /// The brace of an interpolated string that begins at this offset.
+    Part(u32),
+}
