@@ -139,8 +139,9 @@ mod tests {
     #[test]
     fn a_cursor_may_go_back(rt: HostRuntime) {
         let mut cursor = Cursor::new(b"ab\ncd");
-        for (offset, line, column) in [(4u32, 2u32, 2u32), (5, 2, 3), (1, 1, 2), (3, 2, 1)] {
-            assert_eq!(rt; cursor.place(offset), Pos { line, column }, "at {offset}");
-        }
+        assert_eq!(rt; cursor.place(4), Pos { line: 2, column: 2 });
+        assert_eq!(rt; cursor.place(5), Pos { line: 2, column: 3 });
+        assert_eq!(rt; cursor.place(1), Pos { line: 1, column: 2 });
+        assert_eq!(rt; cursor.place(3), Pos { line: 2, column: 1 });
     }
 }
