@@ -25,7 +25,9 @@ pub struct FolderTree<R> {
 
 impl<R> FolderTree<R> {
     /// The folders that this runtime reaches, with no fault so far.
-    pub fn new(rt: R) -> FolderTree<R> {
+    pub fn new(rt: R) -> FolderTree<R>
+        ensures { result.faults.count ≡ 0 }
+    {
         FolderTree {
             rt,
             faults: FaultCount::new(),

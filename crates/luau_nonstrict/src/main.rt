@@ -9,7 +9,8 @@ mod stdout_sink;
 mod turns;
 mod walk;
 
-ghost use Rattle.std.specs.Prelude.{◌≡◌, option_copied};
+ghost use Rattle.std.specs.IoError.{error_kind};
+ghost use Rattle.std.specs.Prelude.{◌≡◌, ◌≢◌, option_copied};
 ghost use Rattle.std.specs.Process.{exit_status};
 ghost use Rattle.luau_nonstrict.specs.Word.{word};
 
@@ -26,7 +27,7 @@ fn main(rt: HostRuntime) -> ExitCode {
     end(&rt, status.code())
 }
 
-/// Runs the command that the program's words are. Words that aren't UTF-8 are no command.
+/// Runs the command that the program's words are.
 fn run<R: Env + Files + Print + AllocGlobal>(rt: &R) -> Status {
     match words(rt) {
         Ok(words) => {
@@ -34,8 +35,19 @@ fn run<R: Env + Files + Print + AllocGlobal>(rt: &R) -> Status {
             let mut sink = StdoutSink::new(rt);
             nonstrict(rt.alloc(), words.as_slice(), &mut tree, &mut sink)
         }
-        Err(e) if e.kind() == ErrorKind::OutOfMemory => Status::NoMemory,
-        Err(_) => Status::Usage,
+        Err(error) => unreadable(&error),
+    }
+}
+
+/// The status of words that can't be read: those that aren't UTF-8 are no command.
+fn unreadable(error: &io::Error) -> Status
+    ensures memory { error_kind error.now ≡ ErrorKind.OutOfMemory → result ≡ Status.NoMemory }
+    ensures usage { error_kind error.now ≢ ErrorKind.OutOfMemory → result ≡ Status.Usage }
+{
+    if error.kind() == ErrorKind::OutOfMemory {
+        Status::NoMemory
+    } else {
+        Status::Usage
     }
 }
 
@@ -68,3 +80,6 @@ fn word_of(code: u8) -> Option<&'static str>
         _ => None,
     }
 }
+
+#[cfg(test)]
+mod tests;

@@ -1,5 +1,5 @@
 //! The standard output.
-ghost use Rattle.std.specs.Prelude.{◌≤◌, IfOk, length};
+ghost use Rattle.std.specs.Prelude.{◌≡◌, ◌≤◌, IfOk, length};
 
 use crate::faults::FaultCount;
 use outside::{Sink, SinkFailed};
@@ -18,7 +18,9 @@ pub struct StdoutSink<P> {
 
 impl<P> StdoutSink<P> {
     /// The standard output of this runtime, with no fault so far.
-    pub fn new(out: P) -> StdoutSink<P> {
+    pub fn new(out: P) -> StdoutSink<P>
+        ensures { result.faults.count ≡ 0 }
+    {
         StdoutSink {
             out,
             faults: FaultCount::new(),
