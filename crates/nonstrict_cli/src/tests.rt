@@ -17,16 +17,16 @@ fn root(alloc: Global, files: &[(&str, &[u8])]) -> Result<Root, Fail> {
     Ok(Root::new(name, List::of(list)).ok_or("not in order")?)
 }
 
-/// The status of a run with the words over the root and the sink, where these calls of the tree fail.
+/// The status of a run with these words, each followed by a semicolon, where these calls of the tree fail.
 fn run(
     alloc: Global,
-    words: &[&str],
+    words: &str,
     root: Root,
     failing: &[u64],
     sink: &mut MemorySink,
 ) -> Result<Status, Fail> {
     let mut list = Vec::new(alloc);
-    for word in words {
+    for word in words.split_terminator(';') {
         list.push(String::from_str(alloc, word)?)?;
     }
     let mut tree = memory_tree(vec![in alloc; root]?, Vec::from_slice(alloc, failing)?);
@@ -60,7 +60,7 @@ fn one_file_gives_its_lines(rt: HostRuntime) -> Result<(), Fail> {
     ] {
         let root = root(alloc, &[("a.luau", text.as_bytes())])?;
         let mut sink = any_sink(alloc)?;
-        let status = run(alloc, &["d"], root, &[], &mut sink)?;
+        let status = run(alloc, "d;", root, &[], &mut sink)?;
         assert_eq!(rt; status.code(), code, "of {text:?}");
         let line = format!(in alloc; "a.luau:{place}: {fails}\n")?;
         let expected = if place.is_empty() {
@@ -94,7 +94,7 @@ fn other_texts_are_refused(rt: HostRuntime) -> Result<(), Fail> {
     ] {
         let root = root(alloc, &[("a.luau", text.as_bytes())])?;
         let mut sink = any_sink(alloc)?;
-        let status = run(alloc, &["d"], root, &[], &mut sink)?;
+        let status = run(alloc, "d;", root, &[], &mut sink)?;
         assert_eq!(rt; status, Status::Refused, "of {text:?}");
         assert_eq!(rt; sink.written(), NO_ABS.as_bytes(), "of {text:?}");
     }
@@ -102,7 +102,7 @@ fn other_texts_are_refused(rt: HostRuntime) -> Result<(), Fail> {
     for len in 1..whole.len() {
         let root = root(alloc, &[("a.luau", &whole[..len])])?;
         let mut sink = any_sink(alloc)?;
-        let status = run(alloc, &["d"], root, &[], &mut sink)?;
+        let status = run(alloc, "d;", root, &[], &mut sink)?;
         assert_eq!(rt; status, Status::Refused, "of the first {len} bytes");
         assert_eq!(rt;
             sink.written(),
@@ -126,7 +126,7 @@ fn files_stand_in_the_order_of_their_paths(rt: HostRuntime) -> Result<(), Fail> 
             ("c.txt", b"math.abs(nil)".as_slice()),
         ],
     )?;
-    assert_eq!(rt; run(alloc, &["d"], files, &[], &mut sink)?, Status::Refused);
+    assert_eq!(rt; run(alloc, "d;", files, &[], &mut sink)?, Status::Refused);
     let expected = "a.luau:1:10: argument 1 of math.abs always fails\n\
         b?.lua:1:1: refused: form not built\n\
         b.luau:1:10: argument 1 of math.abs always fails\n\
@@ -135,7 +135,7 @@ fn files_stand_in_the_order_of_their_paths(rt: HostRuntime) -> Result<(), Fail> 
 
     let mut sink = any_sink(alloc)?;
     let files = root(alloc, &[])?;
-    assert_eq!(rt; run(alloc, &["d"], files, &[], &mut sink)?, Status::Clean);
+    assert_eq!(rt; run(alloc, "d;", files, &[], &mut sink)?, Status::Clean);
     assert_eq!(rt; sink.written(), b"".as_slice());
     Ok(())
 }
@@ -143,13 +143,7 @@ fn files_stand_in_the_order_of_their_paths(rt: HostRuntime) -> Result<(), Fail> 
 #[test]
 fn other_words_are_no_command(rt: HostRuntime) -> Result<(), Fail> {
     let alloc = rt.alloc();
-    for words in [
-        [].as_slice(),
-        [""].as_slice(),
-        ["-x"].as_slice(),
-        ["sample:1"].as_slice(),
-        ["d", "d"].as_slice(),
-    ] {
+    for words in ["", ";", "-x;", "sample:1;", "d;d;"] {
         let files = root(alloc, &[("a.luau", b"x".as_slice())])?;
         let mut sink = any_sink(alloc)?;
         let status = run(alloc, words, files, &[], &mut sink)?;
@@ -169,7 +163,7 @@ fn a_folder_that_fails_gives_nothing(rt: HostRuntime) -> Result<(), Fail> {
             &[("a.luau", b"x".as_slice()), ("b.luau", b"".as_slice())],
         )?;
         let mut sink = any_sink(alloc)?;
-        let status = run(alloc, &["d"], files, &[failing], &mut sink)?;
+        let status = run(alloc, "d;", files, &[failing], &mut sink)?;
         assert_eq!(rt; status, Status::ReadFault, "at call {failing}");
         assert_eq!(rt; status.code(), 66);
         assert_eq!(rt; sink.written(), b"".as_slice());
@@ -202,7 +196,7 @@ fn an_output_that_fails_keeps_its_front(rt: HostRuntime) -> Result<(), Fail> {
         assert!(rt; *per_call >= 1);
         let mut sink = memory_sink(alloc, *room, *per_call, failing_calls, idle_calls)?;
         let files = root(alloc, &[("a.luau", b"math.abs(\"hi\")".as_slice())])?;
-        let status = run(alloc, &["d"], files, &[], &mut sink)?;
+        let status = run(alloc, "d;", files, &[], &mut sink)?;
         assert_eq!(rt; status, Status::WriteFault);
         assert_eq!(rt; status.code(), 74);
         assert!(rt; *written <= line.len());
@@ -236,7 +230,7 @@ fn limits_are_told_with_their_numbers(rt: HostRuntime) -> Result<(), Fail> {
             [].as_slice()
         };
         let mut sink = any_sink(alloc)?;
-        assert_eq!(rt; run(alloc, &["d"], files, failing, &mut sink)?, expected);
+        assert_eq!(rt; run(alloc, "d;", files, failing, &mut sink)?, expected);
         assert_eq!(rt; sink.written(), b"".as_slice());
     }
     Ok(())
@@ -255,7 +249,7 @@ fn a_file_past_its_limit_is_refused(rt: HostRuntime) -> Result<(), Fail> {
             ("b.luau", blanks.as_slice()),
         ],
     )?;
-    assert_eq!(rt; run(alloc, &["d"], files, &[], &mut sink)?, Status::Refused);
+    assert_eq!(rt; run(alloc, "d;", files, &[], &mut sink)?, Status::Refused);
     assert_eq!(rt;
         sink.written(),
         b"b.luau:1:1: refused: file too large\n".as_slice()
