@@ -25,7 +25,7 @@ size files path = length (source files path)
 
 -- the lines of a file as it is read
 abbrev pub lines_in : List File → List ℕ → List Line
-lines_in files path = lines_of_file path (source files path)
+lines_in files path = lines_of_file (module_paths files) path (source files path)
 
 -- of a folder's modules so many are read: these are their lines and the sum of their sizes
 pub record Read (files : List File) (paths : List (List ℕ)) (count total : ℕ) (lines : List Line) : Type 0 where
@@ -51,17 +51,17 @@ ends : (total n : ℕ) (sizes : List ℕ) → MAX_TOTAL < total + n → first_ov
 ends total n sizes h = rw (lt-ltb MAX_TOTAL (total + n) h) refl
 
 -- after one more file
-read_step : (files : List File) (paths : List (List ℕ)) (count total sum : ℕ) (lines more : List Line) (path : List ℕ) → count < length paths → path ≡ get_or paths count path → more ≡ lines ++ lines_in files path → sum ≡ total + size files path → sum ≤ MAX_TOTAL → Read files paths count total lines → Read files paths (count + 1) sum more
+read_step : (files : List File) (paths : List (List ℕ)) (count total sum : ℕ) (lines more : List Line) (path : List ℕ) → count < length paths → path ≡ get_or paths count path → more ≡ lines ++ lines_of_file paths path (source files path) → sum ≡ total + size files path → sum ≤ MAX_TOTAL → Read files paths count total lines → Read files paths (count + 1) sum more
 read_step files paths count total sum lines more path h here added summed within r =
     let front : take (count + 1) paths ≡ take count paths ++ path ∷ [] = take_more paths count path h ∙ ap (λ p. take count paths ++ p ∷ []) (sym here) in
     let back : drop count paths ≡ path ∷ drop (count + 1) paths = drop_more paths count path h ∙ ap (λ p. p ∷ drop (count + 1) paths) (sym here) in
     record {
       listed = r.listed;
-      lines_so_far = added ∙ ap (λ l. l ++ lines_in files path) r.lines_so_far ∙ flat_map_more (lines_in files) [] (take count paths) path ∙ ap (flat_map (lines_in files)) (sym front);
+      lines_so_far = added ∙ ap (λ ps. lines ++ lines_of_file ps path (source files path)) r.listed ∙ ap (λ l. l ++ lines_in files path) r.lines_so_far ∙ flat_map_more (lines_in files) [] (take count paths) path ∙ ap (flat_map (lines_in files)) (sym front);
       sums = r.sums ∙ ap (λ ps. first_over total (map (size files) ps)) back ∙ goes_on total (size files path) (map (size files) (drop (count + 1) paths)) (omega arith) ∙ ap (λ n. first_over n (map (size files) (drop (count + 1) paths))) (sym summed);
     }
 
-pub gathered_step : (told : Option Contents) (folder : List ℕ) (paths : List (List ℕ)) (count total sum : ℕ) (lines more : List Line) (path : List ℕ) → count < length paths → path ≡ get_or paths count path → IfSome told (λ contents. more ≡ lines ++ lines_in (contents folder) path) → IfSome told (λ contents. sum ≡ total + size (contents folder) path) → sum ≤ MAX_TOTAL → Gathered told folder paths count total lines → Gathered told folder paths (count + 1) sum more
+pub gathered_step : (told : Option Contents) (folder : List ℕ) (paths : List (List ℕ)) (count total sum : ℕ) (lines more : List Line) (path : List ℕ) → count < length paths → path ≡ get_or paths count path → IfSome told (λ contents. more ≡ lines ++ lines_of_file paths path (source (contents folder) path)) → IfSome told (λ contents. sum ≡ total + size (contents folder) path) → sum ≤ MAX_TOTAL → Gathered told folder paths count total lines → Gathered told folder paths (count + 1) sum more
 gathered_step None folder paths count total sum lines more path h here added summed within g = tt
 gathered_step (Some contents) folder paths count total sum lines more path h here added summed within g = read_step (contents folder) paths count total sum lines more path h here added summed within g
 

@@ -1,7 +1,8 @@
 -- The lines of a folder.
-use Rattle.std.specs.Prelude.{◌+◌, ◌++◌, ◌||◌, ◌==◌, ℕ, Bool, List, [], ◌∷◌, Option, None, Some, unwrap_or, map, filter, flat_map, take, length, nat_eq, nat_lt, codes, if◌then◌else◌, option_map, string_bytes}
+use Rattle.std.specs.Prelude.{◌+◌, ◌-◌, ◌++◌, ◌||◌, ◌==◌, ℕ, Bool, List, [], ◌∷◌, Option, None, Some, unwrap_or, map, filter, flat_map, take, length, nat_eq, nat_lt, codes, if◌then◌else◌, option_map, string_bytes}
 use Rattle.std.specs.BTreeSet.{insert_key}
-use Rattle.std.specs.List.{ends_with}
+use Rattle.std.specs.List.{ends_with, list_any}
+use Rattle.std.specs.Str.{bytes_eq}
 use Rattle.luau_tree.specs.declared.position.TheConstants.{MAX_TEXT}
 use Rattle.luau_tree.specs.Position.{pos_at}
 use Rattle.diag_text.specs.declared.line.Line.{Line}
@@ -47,13 +48,30 @@ abbrev pub lines_at : List ℕ → List ℕ → Option (List ℕ) → List Line
 lines_at path text None = refusal_line path (codes "form not built") ∷ []
 lines_at path text (Some offsets) = map (argument_line path text) offsets
 
--- the lines of a file: a refusal where it has more than 1,048,576 bytes or isn't of the built form, else one for each call that fails
-abbrev pub lines_of_file : List ℕ → List ℕ → List Line
-lines_of_file path text = if nat_lt MAX_TEXT (length text) then refusal_line path (codes "file too large") ∷ [] else lines_at path text (faults text)
+-- whether the last part of a path is `init.luau` or `init.lua`
+abbrev pub is_init : List ℕ → Bool
+is_init path = bytes_eq path (codes "init.luau") || bytes_eq path (codes "init.lua") || ends_with nat_eq path (codes "/init.luau") || ends_with nat_eq path (codes "/init.lua")
+
+-- the path of the same module name with the other ending, which is a `u` more or less
+abbrev pub twin_of : List ℕ → List ℕ
+twin_of path = if ends_with nat_eq path (codes ".luau") then take (length path - 1) path else path ++ codes "u"
+
+-- why a file of a folder with these paths is refused for its size or its name, if it is: it has more than 1,048,576 bytes, or it stands for its folder, or another file has its module name
+abbrev pub refusal_of : List (List ℕ) → List ℕ → List ℕ → Option (List ℕ)
+refusal_of paths path text = if nat_lt MAX_TEXT (length text) then Some (codes "file too large") else if is_init path then Some (codes "directory module") else if list_any (λ other. bytes_eq other (twin_of path)) paths then Some (codes "repeated module name") else None
+
+-- the lines of a file by why it is refused, else those of its text
+abbrev pub lines_unless : Option (List ℕ) → List ℕ → List ℕ → List Line
+lines_unless (Some why) path text = refusal_line path why ∷ []
+lines_unless None path text = lines_at path text (faults text)
+
+-- the lines of a file of a folder with these paths
+abbrev pub lines_of_file : List (List ℕ) → List ℕ → List ℕ → List Line
+lines_of_file paths path text = lines_unless (refusal_of paths path text) path text
 
 -- the lines of a folder: those of all its modules, sorted and each once
 abbrev pub lines_of : List File → List Line
-lines_of files = sorted_lines (flat_map (λ path. lines_of_file path (source files path)) (module_paths files))
+lines_of files = sorted_lines (flat_map (λ path. lines_of_file (module_paths files) path (source files path)) (module_paths files))
 
 -- the first sum of these sizes that passes the limit on bytes, from a sum before them
 abbrev pub first_over : ℕ → List ℕ → Option ℕ

@@ -1,9 +1,13 @@
 //! The lines of one file.
-ghost use Rattle.std.specs.Prelude.{◌≡◌, ◌≤◌, ◌++◌, [], ◌∷◌, All, IfOk, OnOk, length, map};
+ghost use Rattle.std.specs.Prelude.{◌≡◌, ◌≤◌, ◌++◌, All, IfNone, IfOk, OnOk, length, map, option_copied};
+ghost use Rattle.std.specs.List.Sorted.{IsSorted};
+ghost use Rattle.diag_text.specs.Line.{bytes_cmp};
 ghost use Rattle.luau_tree.specs.declared.position.Pos.{Pos};
-ghost use Rattle.nonstrict_cli.specs.Folder.{argument_line, lines_of_file, refusal_line};
+ghost use Rattle.nonstrict_cli.specs.Folder.{argument_line, lines_at, lines_of_file, refusal_line, refusal_of};
+ghost use Rattle.nonstrict_cli.specs.Form.{faults};
 
 use crate::form::read_faults;
+use crate::paths::{has_twin, is_init};
 use diag_text::{Line, LineKind};
 use luau_tree::{Bytes, Cursor, MAX_TEXT, Pos};
 use std::alloc::{AllocError, Global};
@@ -63,22 +67,60 @@ fn push_arguments(
     Ok(())
 }
 
-/// Adds the lines of a file.
-pub(crate) fn push_lines(
+/// Why a file of a folder with these paths, which are in order, is refused for its size or its name.
+fn refusal_of(
+    alloc: Global,
+    paths: &[Bytes],
+    path: &str,
+    text: &[u8],
+) -> Result<Option<&'static str>, AllocError>
+    requires { IsSorted bytes_cmp paths.now }
+    ensures why { IfOk result (λ why. option_copied why ≡ refusal_of paths.now path.now text.now) }
+    ensures short { IfOk result (λ why. IfNone why (length text.now ≤ MAX_TEXT)) }
+{
+    if text.len() > MAX_TEXT {
+        return Ok(Some("file too large"));
+    }
+    if is_init(path) {
+        return Ok(Some("directory module"));
+    }
+    if has_twin(alloc, paths, path)? {
+        return Ok(Some("repeated module name"));
+    }
+    Ok(None)
+}
+
+/// Adds the lines of a file that isn't refused for its size or its name.
+fn push_text_lines(
     alloc: Global,
     path: &str,
     text: &[u8],
     lines: &mut Vec<Line>,
 ) -> Result<(), AllocError>
-    ensures { OnOk result (lines.new.items ≡ lines.old.items ++ lines_of_file path.now text.now) }
+    requires { length text.now ≤ MAX_TEXT }
+    ensures { OnOk result (lines.new.items ≡ lines.old.items ++ lines_at path.now text.now (faults text.now)) }
 {
-    if text.len() > MAX_TEXT {
-        lines.push(refusal(alloc, path, "file too large")?)?;
-        return Ok(());
-    }
     match read_faults(alloc, text)? {
         None => lines.push(refusal(alloc, path, "form not built")?)?,
         Some(offsets) => push_arguments(alloc, path, text, offsets.as_slice(), lines)?,
+    }
+    Ok(())
+}
+
+/// Adds the lines of a file of a folder with these paths, which are in order.
+pub(crate) fn push_lines(
+    alloc: Global,
+    paths: &[Bytes],
+    path: &str,
+    text: &[u8],
+    lines: &mut Vec<Line>,
+) -> Result<(), AllocError>
+    requires { IsSorted bytes_cmp paths.now }
+    ensures { OnOk result (lines.new.items ≡ lines.old.items ++ lines_of_file paths.now path.now text.now) }
+{
+    match refusal_of(alloc, paths, path, text)? {
+        Some(why) => lines.push(refusal(alloc, path, why)?)?,
+        None => push_text_lines(alloc, path, text, lines)?,
     }
     Ok(())
 }

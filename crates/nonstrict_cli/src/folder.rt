@@ -1,15 +1,18 @@
 //! Reads the modules of a folder and gathers their lines.
 ghost use Rattle.std.specs.Prelude.{◌≡◌, ◌≢◌, ◌+◌, ◌<◌, ◌≤◌, ◌++◌, ℕ, None, Some, IfOk, IfSome, IsSome, OnOk, length};
+ghost use Rattle.std.specs.List.Sorted.{IsSorted};
+ghost use Rattle.diag_text.specs.Line.{bytes_cmp};
 ghost use Rattle.outside.specs.Cause.{Rose};
 ghost use Rattle.outside.specs.Contents.{file_at};
 ghost use Rattle.nonstrict_cli.specs.declared.status.Limit.{Limit};
 ghost use Rattle.nonstrict_cli.specs.Folder.{limit_of, lines_of, lines_of_file, source};
 
 use crate::file::push_lines;
-use crate::paths::modules_among;
+use crate::paths::{as_bytes, modules_among};
 use crate::stop::Stop;
 use crate::{Limit, MAX_FILES, MAX_READ, MAX_TOTAL};
 use diag_text::{Line, sort_lines};
+use luau_tree::Bytes;
 use outside::Tree;
 use std::alloc::Global;
 
@@ -18,12 +21,14 @@ fn add_file<T: Tree>(
     alloc: Global,
     tree: &mut T,
     folder: &str,
+    paths: &[Bytes],
     path: &str,
     total: &mut u64,
     lines: &mut Vec<Line>,
 ) -> Result<(), Stop>
-    requires { total.old ≤ MAX_TOTAL }
-    ensures lines { OnOk result (IfSome (T.contents tree.old) (λ told. lines.new.items ≡ lines.old.items ++ lines_of_file path.now (source (told folder.now) path.now))) }
+    requires order { IsSorted bytes_cmp paths.now }
+    requires within { total.old ≤ MAX_TOTAL }
+    ensures lines { OnOk result (IfSome (T.contents tree.old) (λ told. lines.new.items ≡ lines.old.items ++ lines_of_file paths.now path.now (source (told folder.now) path.now))) }
     ensures total { OnOk result (IfSome (T.contents tree.old) (λ told. total.new ≡ total.old + length (source (told folder.now) path.now))) }
     ensures within { OnOk result (total.new ≤ MAX_TOTAL) }
     ensures too_large { (limit : Limit) → result ≡ Err (Stop.TooLarge limit) → IfSome (T.contents tree.old) (λ told. (limit ≡ Limit.Bytes (total.old + length (source (told folder.now) path.now))) × (MAX_TOTAL < total.old + length (source (told folder.now) path.now))) }
@@ -37,7 +42,7 @@ fn add_file<T: Tree>(
     if *total > MAX_TOTAL {
         return Err(Stop::TooLarge(Limit::Bytes(*total)));
     }
-    push_lines(alloc, path, &text, lines)?;
+    push_lines(alloc, paths, path, &text, lines)?;
     Ok(())
 }
 
@@ -59,10 +64,19 @@ pub(crate) fn folder_lines<T: Tree>(
     if paths.len() > MAX_FILES {
         return Err(Stop::TooLarge(Limit::Files(paths.len() as u64)));
     }
+    let listed = as_bytes(alloc, &paths)?;
     let mut total = 0;
     let mut lines = Vec::new(alloc);
     for path in &paths {
-        add_file(alloc, tree, folder, path.as_str(), &mut total, &mut lines)?;
+        add_file(
+            alloc,
+            tree,
+            folder,
+            &listed,
+            path.as_str(),
+            &mut total,
+            &mut lines,
+        )?;
     }
     Ok(sort_lines(lines)?)
 }
