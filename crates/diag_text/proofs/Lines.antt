@@ -21,6 +21,7 @@ use Rattle.diag_text.proofs.Ordered.{has, sorted_insert, has-insert, has_alike, 
 kind_at : ℕ → LineKind
 kind_at n = if n == 0 then Refused else if n == 1 then Skipped else if n == 2 then Argument else if n == 3 then Missing else if n == 4 then Operand else if n == 5 then Value else Parameter
 
+-- the rank of a kind gives the kind back
 kind_at-kind_rank : (k : LineKind) → kind_at (kind_rank k) ≡ k
 unfolding kind_at
 kind_at-kind_rank Refused = refl
@@ -31,6 +32,7 @@ kind_at-kind_rank Operand = refl
 kind_at-kind_rank Value = refl
 kind_at-kind_rank Parameter = refl
 
+-- kinds of one rank are equal
 same_kind : (a b : LineKind) → kind_rank a ≡ kind_rank b → a ≡ b
 same_kind a b e = sym (kind_at-kind_rank a) ∙ ap kind_at e ∙ kind_at-kind_rank b
 
@@ -38,11 +40,13 @@ same_kind a b e = sym (kind_at-kind_rank a) ∙ ap kind_at e ∙ kind_at-kind_ra
 pub line_cmp_total : IsTotalOrder line_cmp
 line_cmp_total = then_total (on_total (λ l. l.path) nat_list_cmp_total) (then_total (on_total (λ l. l.at.line) nat_cmp_total) (then_total (on_total (λ l. l.at.column) nat_cmp_total) (then_total (on_total (λ l. kind_rank l.kind) nat_cmp_total) (on_total (λ l. l.message) nat_list_cmp_total))))
 
+-- two orders tie where both do
 both_equal : (r s : Ordering) → ordering_then r s ≡ Equal → (r ≡ Equal) × (s ≡ Equal)
 both_equal Less s e = (e, cc)
 both_equal Equal s e = (refl, e)
 both_equal Greater s e = (e, cc)
 
+-- bytes that tie are equal
 same_bytes : IsAntisymmetric bytes_cmp
 same_bytes = slice_cmp-IsAntisymmetric nat_cmp-IsAntisymmetric
 
@@ -60,11 +64,13 @@ same_line a b e =
     let message = same_bytes a.message b.message k.1 in
     λ i. record { path = path i; at = record { line = line i; column = column i }; kind = kind i; message = message i }
 
+-- sorted lines are in strict order
 pub sorted_lines_sorted : (xs : List Line) → IsStrictlySortedBy line_cmp (sorted_lines xs)
 unfolding IsStrictlySortedBy
 sorted_lines_sorted [] = tt
 sorted_lines_sorted (x ∷ xs) = sorted_insert line_cmp_total (sorted_lines xs) x (sorted_lines_sorted xs)
 
+-- sorted lines have the members of the lines
 pub has-sorted_lines : (xs : List Line) (q : Line) → has line_cmp (sorted_lines xs) q ≡ has line_cmp xs q
 has-sorted_lines [] q = refl
 has-sorted_lines (x ∷ xs) q = has-insert line_cmp_total (sorted_lines xs) x q ∙ ap (λ b. eq_by_cmp line_cmp q x || b) (has-sorted_lines xs q)
