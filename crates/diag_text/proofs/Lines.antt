@@ -1,8 +1,8 @@
--- The order of lines, and what sorting and dropping repeats makes of them.
+-- The order of lines, what sorting and dropping repeats makes of them, and the laws of sorted lines.
 use Rattle.std.proofs.Common.{◌≡◌, ℕ, ◌==◌, true, ◌||◌, ◌+◌, List, [], ◌∷◌, Contains, AllPairs, arith, refl, ap, sym, ◌∙◌, if◌then◌else◌}
 use Rattle.std.specs.declared.cmp.Ordering.{Ordering}
 use Rattle.std.specs.declared.cmp.Ordering.TheVariants.{Less, Equal, Greater}
-use Rattle.std.specs.Ordering.{nat_cmp, is_eq, ordering_then, eq_by_cmp}
+use Rattle.std.specs.Ordering.{ordering_then, eq_by_cmp}
 use Rattle.std.specs.Cmp.{IsTotalOrder, nat_cmp_total, on_total, then_total, eq_by_cmp_equiv, tied_itself, Equal-is}
 use Rattle.std.specs.Cmp.Lexicographic.{nat_list_cmp_total}
 use Rattle.std.specs.FinMap.{IsAntisymmetric, nat_cmp-IsAntisymmetric, slice_cmp-IsAntisymmetric}
@@ -14,34 +14,14 @@ use Rattle.std.proofs.lemmas.List.Sorted.{Contains-permutation, IsPermutation-sy
 use Rattle.diag_text.specs.declared.line.Line.{Line}
 use Rattle.diag_text.specs.declared.line.LineKind.{LineKind}
 use Rattle.diag_text.specs.declared.line.LineKind.TheVariants.{Refused, Skipped, Argument, Missing, Operand, Value, Parameter}
-use Rattle.diag_text.specs.contracts.line.LineOrd.TheImpl as lines
-use Rattle.diag_text.specs.contracts.line.LinePartialEq.TheImpl as equals
-use Rattle.diag_text.specs.contracts.line.LineOrd.TheImpl.Laws.{matches_eq-law}
-use Rattle.diag_text.specs.contracts.line.LineKindOrd.TheImpl as kinds
 use Rattle.diag_text.specs.Line.{bytes_cmp, line_cmp, kind_rank, sorted_lines}
 use Rattle.diag_text.proofs.Ordered.{has, sorted_insert, has-insert, has_alike, only_one, Contains-from_has, has-from_Contains}
-
--- the kinds are ordered as they are declared
-kinds_agree : (a b : LineKind) → (kinds.ghosts).cmp a b ≡ nat_cmp (kind_rank a) (kind_rank b)
-kinds_agree Refused Refused = refl
-kinds_agree Refused b = refl
-kinds_agree Skipped Refused = refl
-kinds_agree Skipped b = refl
-kinds_agree Argument Refused = refl
-kinds_agree Argument b = refl
-kinds_agree Missing Refused = refl
-kinds_agree Missing b = refl
-kinds_agree Operand Refused = refl
-kinds_agree Operand b = refl
-kinds_agree Value Refused = refl
-kinds_agree Value b = refl
-kinds_agree Parameter Refused = refl
-kinds_agree Parameter b = refl
 
 -- a kind is known by its rank
 kind_at : ℕ → LineKind
 kind_at n = if n == 0 then Refused else if n == 1 then Skipped else if n == 2 then Argument else if n == 3 then Missing else if n == 4 then Operand else if n == 5 then Value else Parameter
 
+-- the rank of a kind gives the kind back
 kind_at-kind_rank : (k : LineKind) → kind_at (kind_rank k) ≡ k
 unfolding kind_at
 kind_at-kind_rank Refused = refl
@@ -52,33 +32,21 @@ kind_at-kind_rank Operand = refl
 kind_at-kind_rank Value = refl
 kind_at-kind_rank Parameter = refl
 
+-- kinds of one rank are equal
 same_kind : (a b : LineKind) → kind_rank a ≡ kind_rank b → a ≡ b
 same_kind a b e = sym (kind_at-kind_rank a) ∙ ap kind_at e ∙ kind_at-kind_rank b
 
--- line and column in one step or in two
-grouped : (p l c k j m : Ordering) → k ≡ j → ordering_then p (ordering_then (ordering_then l c) (ordering_then k m)) ≡ ordering_then p (ordering_then l (ordering_then c (ordering_then j m)))
-grouped Less l c k j m e = refl
-grouped Greater l c k j m e = refl
-grouped Equal Less c k j m e = refl
-grouped Equal Greater c k j m e = refl
-grouped Equal Equal c k j m e = ap (λ r. ordering_then c (ordering_then r m)) e
-
--- lines are compared by the order of the definition
-pub agree : (a b : Line) → (lines.ghosts).cmp a b ≡ line_cmp a b
-agree a b = grouped (bytes_cmp a.path b.path) (nat_cmp a.at.line b.at.line) (nat_cmp a.at.column b.at.column) _ _ (bytes_cmp a.message b.message) (kinds_agree a.kind b.kind)
-
--- `==` of lines holds where they tie
-pub ties : (a b : Line) → (equals.ghosts).eq a b ≡ eq_by_cmp line_cmp a b
-ties a b = matches_eq-law a b ∙ ap is_eq (agree a b)
-
+-- lines are compared by a total order
 pub line_cmp_total : IsTotalOrder line_cmp
 line_cmp_total = then_total (on_total (λ l. l.path) nat_list_cmp_total) (then_total (on_total (λ l. l.at.line) nat_cmp_total) (then_total (on_total (λ l. l.at.column) nat_cmp_total) (then_total (on_total (λ l. kind_rank l.kind) nat_cmp_total) (on_total (λ l. l.message) nat_list_cmp_total))))
 
+-- two orders tie where both do
 both_equal : (r s : Ordering) → ordering_then r s ≡ Equal → (r ≡ Equal) × (s ≡ Equal)
 both_equal Less s e = (e, cc)
 both_equal Equal s e = (refl, e)
 both_equal Greater s e = (e, cc)
 
+-- bytes that tie are equal
 same_bytes : IsAntisymmetric bytes_cmp
 same_bytes = slice_cmp-IsAntisymmetric nat_cmp-IsAntisymmetric
 
@@ -96,11 +64,13 @@ same_line a b e =
     let message = same_bytes a.message b.message k.1 in
     λ i. record { path = path i; at = record { line = line i; column = column i }; kind = kind i; message = message i }
 
+-- sorted lines are in strict order
 pub sorted_lines_sorted : (xs : List Line) → IsStrictlySortedBy line_cmp (sorted_lines xs)
 unfolding IsStrictlySortedBy
 sorted_lines_sorted [] = tt
 sorted_lines_sorted (x ∷ xs) = sorted_insert line_cmp_total (sorted_lines xs) x (sorted_lines_sorted xs)
 
+-- sorted lines have the members of the lines
 pub has-sorted_lines : (xs : List Line) (q : Line) → has line_cmp (sorted_lines xs) q ≡ has line_cmp xs q
 has-sorted_lines [] q = refl
 has-sorted_lines (x ∷ xs) q = has-insert line_cmp_total (sorted_lines xs) x q ∙ ap (λ b. eq_by_cmp line_cmp q x || b) (has-sorted_lines xs q)

@@ -15,6 +15,7 @@ use Rattle.std.proofs.lemmas.List.Folds.{Any-from_list_any, list_any_at}
 abbrev pub has : {K : Type 0} → (K → K → Ordering) → List K → K → Bool
 has R xs q = list_any (eq_by_cmp R q) xs
 
+-- steps of tests joined by `||`
 swapped : (a b c : Bool) → (a || (b || c)) ≡ (b || (a || c))
 swapped true true c = refl
 swapped true false c = refl
@@ -29,7 +30,7 @@ or_of : (a b c d : Bool) → a ≡ b → c ≡ d → (a || c) ≡ (b || d)
 or_of a b c d p q = λ i. p i || q i
 
 module _ {K : Type 0} {R : K → K → Ordering} (o : IsTotalOrder R) where
-  -- what is below each of xs is below none that is added above it
+  -- what is below a key and below each of xs is below each once the key is put in
   above_insert : (x k : K) (xs : List K) → R x k ≡ Less → AllByRecursion (λ y. R x y ≡ Less) xs → AllByRecursion (λ y. R x y ≡ Less) (insert_key R xs k)
   above_insert x k [] h a = (h, tt)
   above_insert x k (y ∷ ys) h a =
@@ -44,6 +45,7 @@ module _ {K : Type 0} {R : K → K → Ordering} (o : IsTotalOrder R) where
   below_each k x [] h a = tt
   below_each k x (y ∷ ys) h a = (o.trans k x y h a.0, below_each k x ys h a.1)
 
+  -- what is above a key has the key below it
   turned : (k x : K) → R k x ≡ Greater → R x k ≡ Less
   turned k x e = o.antisymm x k ∙ ap ordering_reverse e
 
@@ -73,6 +75,7 @@ module _ {K : Type 0} {R : K → K → Ordering} (o : IsTotalOrder R) where
   none_above q [] a = refl
   none_above q (y ∷ ys) a = or_of (eq_by_cmp R q y) false (has R ys q) false (ap is_eq a.0) (none_above q ys a.1)
 
+  -- the first is a member
   has_itself : (x : K) (xs : List K) → has R (x ∷ xs) x ≡ true
   has_itself x xs = ap (λ r. is_eq r || has R xs x) (tied_itself o x)
 
