@@ -1,8 +1,8 @@
 -- Facts on the small shelves of the tests.
-use Rattle.std.proofs.Common.{◌≡◌, ℕ, zero, suc, List, [], ◌∷◌, ◌++◌, refl, ap, sym, subst, ◌∙◌, Bool, true, false, inl, inr}
-use Rattle.std.specs.Prelude.{Some, slice_get, slice_index_or, IsTrue, All, ◌⊎◌, ◌==◌, if◌then◌else◌}
+use Rattle.std.proofs.Common.{◌≡◌, ℕ, zero, suc, List, [], ◌∷◌, refl, ap, sym, subst, ◌∙◌, Bool, true, false, inl, inr}
+use Rattle.std.specs.Prelude.{Some, slice_get, slice_index_or, IsTrue, All, ◌⊎◌, ◌==◌}
 use Rattle.std.proofs.lemmas.List.Elements.{All-cons, All-nil}
-use Rattle.type_arena.specs.Store.{Holding, Store, nodes_at, node_at, has, refs_of, IsPlaced, IsClosed}
+use Rattle.type_arena.specs.Store.{Holding, Store, node_at, has, refs_of, IsPlaced, IsClosed}
 use Rattle.type_arena.specs.Frozen.{holding_of, holdings_of}
 use Rattle.type_arena.specs.declared.frozen.Frozen.{Frozen}
 use Rattle.type_arena.specs.declared.node.Node.{Node}

@@ -76,9 +76,10 @@ impl<'a> Arena<'a> {
         ensures own_home { home_of self.new ≡ home_of self.old }
         ensures err { OnErr result (nodes_of self.new ≡ nodes_of self.old) }
     {
+        let home = self.home;
         let (id, _) = self.own.insert_full(node)?;
         Ok(TypeRef {
-            home: self.home,
+            home,
             id: id as u64,
         })
     }

@@ -1,4 +1,4 @@
-use Rattle.std.proofs.Common.{◌≡◌, sym, subst, ◌∙◌, ap, length, List, [], ◌∷◌, ◌++◌, ℕ}
+use Rattle.std.proofs.Common.{◌≡◌, sym, subst, ◌∙◌, ap, length, [], ◌∷◌, ◌++◌, ℕ}
 use Rattle.std.proofs.lemmas.List.{map-append, length-map}
 use Rattle.type_arena.specs.Store.{Holding, Store, IsPlaced, IsClosed, IsSound}
 use Rattle.type_arena.specs.Frozen.{holding_of, holdings_of}

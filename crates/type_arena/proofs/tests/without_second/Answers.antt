@@ -1,6 +1,6 @@
-use Rattle.std.proofs.Common.{◌≡◌, sym, subst, ◌∙◌, ap, List, [], ◌∷◌, ◌++◌}
+use Rattle.std.proofs.Common.{◌≡◌, sym, subst, ◌∙◌, ap, [], ◌∷◌}
 use Rattle.type_arena.specs.Frozen.{holding_of}
-use Rattle.type_arena.specs.Store.{Holding, IsPlaced, IsClosed}
+use Rattle.type_arena.specs.Store.{IsPlaced, IsClosed}
 use Rattle.type_arena.proofs.TestLemmas.{held, first_holding, without_one, without_one-placed, without_one-closed}
 use Rattle.type_arena.proofs.tests.without_second.Goals.{After-drop-arenas-2}
 use Rattle.type_arena.proofs.tests.without_second.Goals as goal

@@ -21,19 +21,29 @@ interned : (c : In_ok-id) → Interned c.args.self.now.own.keys c.insert_full.ne
 interned c = Interned-from_insert _ node_tested c.args.node c.args.self.now.own.keys c.insert_full.new.self.keys c.in_ok-id.id c.in_ok-id.ensures.keys c.in_ok-id.ensures.index
 
 pub returns-clause-interned : goal.returns-clause-interned
-returns-clause-interned c = interned c
+returns-clause-interned c = interned (goal.at.returns-clause-interned c).In_ok-id
 
 pub returns-clause-node : goal.returns-clause-node
-returns-clause-node c = interned-node (shelf_store c.args.self.now.shelf) c.args.self.now.shelf.placed c.args.self.now.home c.args.self.now.above c.args.self.now.own.keys c.insert_full.new.self.keys c.args.node c.in_ok-id.id c.args.self.now.sound c.requires (interned c)
+returns-clause-node c =
+    let d = (goal.at.returns-clause-node c).In_ok-id in
+    interned-node (shelf_store d.args.self.now.shelf) d.args.self.now.shelf.placed d.args.self.now.home d.args.self.now.above d.args.self.now.own.keys d.insert_full.new.self.keys d.args.node d.in_ok-id.id d.args.self.now.sound d.requires (interned d)
 
 pub returns-clause-meaning : goal.returns-clause-meaning
-returns-clause-meaning c = interned-meaning (shelf_store c.args.self.now.shelf) c.args.self.now.shelf.placed c.args.self.now.home c.args.self.now.above c.args.self.now.own.keys c.insert_full.new.self.keys c.args.node c.in_ok-id.id c.args.self.now.sound c.requires (interned c)
+returns-clause-meaning c =
+    let d = (goal.at.returns-clause-meaning c).In_ok-id in
+    interned-meaning (shelf_store d.args.self.now.shelf) d.args.self.now.shelf.placed d.args.self.now.home d.args.self.now.above d.args.self.now.own.keys d.insert_full.new.self.keys d.args.node d.in_ok-id.id d.args.self.now.sound d.requires (interned d)
 
 pub returns-clause-keeps : goal.returns-clause-keeps
-returns-clause-keeps c = interned-keeps (shelf_store c.args.self.now.shelf) c.args.self.now.shelf.placed c.args.self.now.home c.args.self.now.above c.args.self.now.own.keys c.insert_full.new.self.keys c.args.node c.in_ok-id.id c.args.self.now.sound c.requires (interned c)
+returns-clause-keeps c =
+    let d = (goal.at.returns-clause-keeps c).In_ok-id in
+    interned-keeps (shelf_store d.args.self.now.shelf) d.args.self.now.shelf.placed d.args.self.now.home d.args.self.now.above d.args.self.now.own.keys d.insert_full.new.self.keys d.args.node d.in_ok-id.id d.args.self.now.sound d.requires (interned d)
 
 pub returns-clause-kept : goal.returns-clause-kept
-returns-clause-kept c = interned-kept (shelf_store c.args.self.now.shelf) c.args.self.now.shelf.placed c.args.self.now.home c.args.self.now.above c.args.self.now.own.keys c.insert_full.new.self.keys c.args.node c.in_ok-id.id c.args.self.now.sound c.requires (interned c)
+returns-clause-kept c =
+    let d = (goal.at.returns-clause-kept c).In_ok-id in
+    interned-kept (shelf_store d.args.self.now.shelf) d.args.self.now.shelf.placed d.args.self.now.home d.args.self.now.above d.args.self.now.own.keys d.insert_full.new.self.keys d.args.node d.in_ok-id.id d.args.self.now.sound d.requires (interned d)
 
 pub returns-clause-homes : goal.returns-clause-homes
-returns-clause-homes c = interned-homes (shelf_store c.args.self.now.shelf) c.args.self.now.shelf.placed c.args.self.now.home c.args.self.now.above c.args.self.now.own.keys c.insert_full.new.self.keys c.args.node c.in_ok-id.id c.args.self.now.sound c.requires (interned c)
+returns-clause-homes c =
+    let d = (goal.at.returns-clause-homes c).In_ok-id in
+    interned-homes (shelf_store d.args.self.now.shelf) d.args.self.now.shelf.placed d.args.self.now.home d.args.self.now.above d.args.self.now.own.keys d.insert_full.new.self.keys d.args.node d.in_ok-id.id d.args.self.now.sound d.requires (interned d)
