@@ -141,6 +141,30 @@ fn files_stand_in_the_order_of_their_paths(rt: HostRuntime) -> Result<(), Fail> 
 }
 
 #[test]
+fn files_are_refused_for_their_names(rt: HostRuntime) -> Result<(), Fail> {
+    let alloc = rt.alloc();
+    let mut sink = any_sink(alloc)?;
+    let files = root(
+        alloc,
+        &[
+            ("a.lua", b"".as_slice()),
+            ("a.lua/b.luau", b"".as_slice()),
+            ("a.luau", b"math.abs(nil)".as_slice()),
+            ("b/init.lua", b"".as_slice()),
+            ("init.luau", b"".as_slice()),
+            ("xinit.lua", b"".as_slice()),
+        ],
+    )?;
+    assert_eq!(rt; run(alloc, "d;", files, &[], &mut sink)?, Status::Refused);
+    let expected = "a.lua:1:1: refused: repeated module name\n\
+        a.luau:1:1: refused: repeated module name\n\
+        b/init.lua:1:1: refused: directory module\n\
+        init.luau:1:1: refused: directory module\n";
+    assert_eq!(rt; sink.written(), expected.as_bytes());
+    Ok(())
+}
+
+#[test]
 fn other_words_are_no_command(rt: HostRuntime) -> Result<(), Fail> {
     let alloc = rt.alloc();
     for words in ["", ";", "-x;", "sample:1;", "d;d;"] {
