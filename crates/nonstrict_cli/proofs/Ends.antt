@@ -1,5 +1,5 @@
 -- How a run ends that writes nothing, and what a checked folder can't end with.
-use Rattle.std.proofs.Common.{◌≡◌, ◌++◌, ℕ, List, [], Option, None, Some, IfSome, ap, sym, subst, ◌∙◌, append-nil, refl, Result, Err}
+use Rattle.std.proofs.Common.{◌≡◌, ℕ, List, [], Option, None, Some, IfSome, ap, sym, subst, ◌∙◌, append-nil, refl, inl, inr, Result, Err}
 use Rattle.outside.specs.Contents.{Contents}
 use Rattle.outside.specs.Written.{Appends}
 use Rattle.nonstrict_cli.specs.declared.status.Limit.{Limit}
@@ -7,10 +7,12 @@ use Rattle.nonstrict_cli.specs.declared.status.Status.{Status}
 use Rattle.nonstrict_cli.specs.declared.status.Status.TheVariants as status
 use Rattle.nonstrict_cli.specs.declared.stop.Stop.{Stop}
 use Rattle.nonstrict_cli.specs.declared.stop.Stop.TheVariants as stop
-use Rattle.nonstrict_cli.specs.Answer.{StopsWith}
+use Rattle.nonstrict_cli.specs.declared.answer.Answer.{Answer}
+use Rattle.nonstrict_cli.specs.Answer.{Answers, StopsWith}
 use Rattle.nonstrict_cli.specs.Command.{command}
 use Rattle.nonstrict_cli.specs.Folder.{limit_of}
 use Rattle.nonstrict_cli.specs.Output.{Output, output, output_for, output_within}
+use Rattle.nonstrict_cli.specs.Run.{EndsWell}
 use Rattle.nonstrict_cli.specs.Status.{IsAnswer, IsChecked, IsSilent}
 use Rattle.nonstrict_cli.specs.Stop.{status_after}
 
@@ -59,6 +61,19 @@ ended_status words (Some contents) s usage large a = ap (λ (o : Output). o.stat
 pub ended_bytes : (words : List (List ℕ)) (told : Option Contents) (s : Stop) (w : Option (List ℕ)) → (s ≡ stop.Usage → command words ≡ None) → ((limit : Limit) → s ≡ stop.TooLarge limit → IfSome told (StopsWith words limit)) → IsAnswer (status_after s) → IfSome told (λ contents. Appends w w (output words contents).bytes)
 ended_bytes words None s w usage large a = tt
 ended_bytes words (Some contents) s w usage large a = subst (λ (o : Output). Appends w w o.bytes) (sym (ended_output words (Some contents) s usage large a)) (nothing_appended w)
+
+-- a run that stops before the first write ends well, unless the folder failed
+pub stop_ends_well : {A : Type 0} (written : A → Option (List ℕ)) (words : List (List ℕ)) (told : Option Contents) (s : Stop) (sink : A) (TreeRose SinkRose : Type 0) → (s ≡ stop.Usage → command words ≡ None) → ((limit : Limit) → s ≡ stop.TooLarge limit → IfSome told (StopsWith words limit)) → (s ≡ stop.ReadFault → TreeRose) → IfSome told (λ contents. ¬ TreeRose → ¬ SinkRose → EndsWell written sink sink (status_after s) (output words contents))
+stop_ends_well written words None s sink TreeRose SinkRose usage large fault = tt
+stop_ends_well written words (Some contents) stop.Usage sink TreeRose SinkRose usage large fault = λ whole_tree whole_sink. inr (ended_status words (Some contents) stop.Usage usage large tt, ended_bytes words (Some contents) stop.Usage (written sink) usage large tt)
+stop_ends_well written words (Some contents) (stop.TooLarge limit) sink TreeRose SinkRose usage large fault = λ whole_tree whole_sink. inr (ended_status words (Some contents) (stop.TooLarge limit) usage large tt, ended_bytes words (Some contents) (stop.TooLarge limit) (written sink) usage large tt)
+stop_ends_well written words (Some contents) stop.ReadFault sink TreeRose SinkRose usage large fault = λ whole_tree whole_sink. absurd (whole_tree (fault refl))
+stop_ends_well written words (Some contents) stop.NoMemory sink TreeRose SinkRose usage large fault = λ whole_tree whole_sink. inl (refl, refl)
+
+-- and so does one whose answer is written whole
+pub answer_ends_well : {A : Type 0} (written : A → Option (List ℕ)) (words : List (List ℕ)) (told : Option Contents) (answer : Answer) (before after : A) (TreeRose SinkRose : Type 0) → IfSome told (Answers words answer) → Appends (written before) (written after) answer.text.items → IfSome told (λ contents. ¬ TreeRose → ¬ SinkRose → EndsWell written before after answer.status (output words contents))
+answer_ends_well written words None answer before after TreeRose SinkRose answers whole = tt
+answer_ends_well written words (Some contents) answer before after TreeRose SinkRose answers whole = λ whole_tree whole_sink. inr (answers.status, subst (λ (bytes : List ℕ). Appends (written before) (written after) bytes) answers.text whole)
 
 -- an error is the same in another kind of result
 pub err_over : {T U E : Type 0} (a b : E) → ◌≡◌ {A = Result T E} (Err a) (Err b) → ◌≡◌ {A = Result U E} (Err a) (Err b)

@@ -1,6 +1,5 @@
 -- Gathering the lines of a folder file by file.
-use Rattle.std.proofs.Common.{◌≡◌, ◌≤◌, ◌<◌, ◌+◌, ◌++◌, ◌==◌, ◌||◌, ℕ, zero, suc, Bool, true, false, List, [], ◌∷◌, Option, None, Some, IfSome, IsSome, flat_map, filter, map, take, drop, length, get_or, refl, ap, sym, ◌∙◌, subst, arith, add-one, if◌then◌else◌, option_map, nat_eq, nat_lt}
-use Rattle.std.specs.declared.cmp.Ordering.{Ordering}
+use Rattle.std.proofs.Common.{◌≡◌, ◌≤◌, ◌<◌, ◌+◌, ℕ, zero, suc, true, false, List, [], ◌∷◌, Option, None, Some, IfSome, IsSome, flat_map, filter, map, take, drop, length, get_or, refl, ap, sym, ◌∙◌, subst, arith, if◌then◌else◌, option_map, nat_lt}
 use Rattle.std.specs.declared.cmp.Ordering.TheVariants.{Less, Equal, Greater}
 use Rattle.std.specs.Ordering.{match_ordering}
 use Rattle.std.specs.Option.{is_some}
@@ -9,15 +8,14 @@ use Rattle.std.specs.Cmp.Lexicographic.{nat_list_eq_equiv}
 use Rattle.std.specs.BTreeSet.{insert_key}
 use Rattle.std.specs.List.{AllByRecursion}
 use Rattle.std.proofs.lemmas.Bool.{lt-ltb, le-ltb}
-use Rattle.std.proofs.lemmas.List.{take_all, take_more, drop_all, drop_more, flat_map_more}
-use Rattle.std.proofs.lemmas.Grind.{common_steps}
+use Rattle.std.proofs.lemmas.List.{drop_more}
 use Rattle.diag_text.specs.declared.line.Line.{Line}
-use Rattle.diag_text.specs.Line.{bytes_cmp, sorted_lines}
+use Rattle.diag_text.specs.Line.{bytes_cmp}
 use Rattle.outside.specs.Contents.{Contents, File, file_at, paths_of}
 use Rattle.nonstrict_cli.specs.declared.limits.TheConstants.{MAX_FILES, MAX_TOTAL}
 use Rattle.nonstrict_cli.specs.declared.status.Limit.{Limit}
 use Rattle.nonstrict_cli.specs.declared.status.Limit.TheVariants.{Bytes, Files}
-use Rattle.nonstrict_cli.specs.Folder.{first_over, is_module_path, limit_of, lines_of, lines_of_file, module_paths, modules_among, sorted_paths, source}
+use Rattle.nonstrict_cli.specs.Folder.{first_over, is_module_path, limit_of, lines_of_file, module_paths, sorted_paths, source}
 
 -- the size of a file as it is read
 abbrev pub size : List File → List ℕ → ℕ
@@ -37,33 +35,9 @@ pub record Read (files : List File) (paths : List (List ℕ)) (count total : ℕ
 abbrev pub Gathered : Option Contents → List ℕ → List (List ℕ) → ℕ → ℕ → List Line → Type 0
 Gathered told folder paths count total lines = IfSome told (λ contents. Read (contents folder) paths count total lines)
 
--- before the first file
-pub gathered_begin : (told : Option Contents) (folder : List ℕ) (paths : List (List ℕ)) (lines : List Line) → lines ≡ [] → IfSome told (λ contents. paths ≡ module_paths (contents folder)) → Gathered told folder paths 0 0 lines
-gathered_begin None folder paths lines e listed = tt
-gathered_begin (Some contents) folder paths lines e listed = record { listed = listed; lines_so_far = e; sums = refl }
-
--- a sum within the limit goes on with the next size
-goes_on : (total n : ℕ) (sizes : List ℕ) → total + n ≤ MAX_TOTAL → first_over total (n ∷ sizes) ≡ first_over (total + n) sizes
-goes_on total n sizes h = rw (le-ltb MAX_TOTAL (total + n) h) refl
-
 -- a sum past the limit is the answer
 ends : (total n : ℕ) (sizes : List ℕ) → MAX_TOTAL < total + n → first_over total (n ∷ sizes) ≡ Some (total + n)
 ends total n sizes h = rw (lt-ltb MAX_TOTAL (total + n) h) refl
-
--- after one more file
-read_step : (files : List File) (paths : List (List ℕ)) (count total sum : ℕ) (lines more : List Line) (path : List ℕ) → count < length paths → path ≡ get_or paths count path → more ≡ lines ++ lines_of_file paths path (source files path) → sum ≡ total + size files path → sum ≤ MAX_TOTAL → Read files paths count total lines → Read files paths (count + 1) sum more
-read_step files paths count total sum lines more path h here added summed within r =
-    let front : take (count + 1) paths ≡ take count paths ++ path ∷ [] = take_more paths count path h ∙ ap (λ p. take count paths ++ p ∷ []) (sym here) in
-    let back : drop count paths ≡ path ∷ drop (count + 1) paths = drop_more paths count path h ∙ ap (λ p. p ∷ drop (count + 1) paths) (sym here) in
-    record {
-      listed = r.listed;
-      lines_so_far = added ∙ ap (λ ps. lines ++ lines_of_file ps path (source files path)) r.listed ∙ ap (λ l. l ++ lines_in files path) r.lines_so_far ∙ flat_map_more (lines_in files) [] (take count paths) path ∙ ap (flat_map (lines_in files)) (sym front);
-      sums = r.sums ∙ ap (λ ps. first_over total (map (size files) ps)) back ∙ goes_on total (size files path) (map (size files) (drop (count + 1) paths)) (omega arith) ∙ ap (λ n. first_over n (map (size files) (drop (count + 1) paths))) (sym summed);
-    }
-
-pub gathered_step : (told : Option Contents) (folder : List ℕ) (paths : List (List ℕ)) (count total sum : ℕ) (lines more : List Line) (path : List ℕ) → count < length paths → path ≡ get_or paths count path → IfSome told (λ contents. more ≡ lines ++ lines_of_file paths path (source (contents folder) path)) → IfSome told (λ contents. sum ≡ total + size (contents folder) path) → sum ≤ MAX_TOTAL → Gathered told folder paths count total lines → Gathered told folder paths (count + 1) sum more
-gathered_step None folder paths count total sum lines more path h here added summed within g = tt
-gathered_step (Some contents) folder paths count total sum lines more path h here added summed within g = read_step (contents folder) paths count total sum lines more path h here added summed within g
 
 -- the limit that these paths of a folder pass
 unfoldable limit_on : List File → List (List ℕ) → Option Limit
@@ -86,27 +60,6 @@ gathered_over (Some contents) folder paths count total lines path limit h here f
     let back : drop count paths ≡ path ∷ drop (count + 1) paths = drop_more paths count path h ∙ ap (λ p. p ∷ drop (count + 1) paths) (sym here) in
     let sum : first_over 0 (map (size files) paths) ≡ Some (total + size files path) = r.sums ∙ ap (λ ps. first_over total (map (size files) ps)) back ∙ ends total (size files path) (map (size files) (drop (count + 1) paths)) over.1 in
     limit_on-listed files paths r.listed ∙ limit_on-few files paths few ∙ ap (option_map Bytes) sum ∙ ap Some (sym over.0)
-
--- too many files
-pub many : (told : Option Contents) (folder : List ℕ) (paths : List (List ℕ)) → MAX_FILES < length paths → IfSome told (λ contents. paths ≡ module_paths (contents folder)) → IfSome told (λ contents. limit_of (contents folder) ≡ Some (Files (length paths)))
-unfolding limit_on
-many None folder paths h listed = tt
-many (Some contents) folder paths h listed = limit_on-listed (contents folder) paths listed ∙ rw (lt-ltb MAX_FILES (length paths) h) refl
-
--- past the last file no limit is passed
-pub gathered_within : (told : Option Contents) (folder : List ℕ) (paths : List (List ℕ)) (count total : ℕ) (lines : List Line) → length paths ≤ count → length paths ≤ MAX_FILES → Gathered told folder paths count total lines → IfSome told (λ contents. limit_of (contents folder) ≡ None)
-gathered_within None folder paths count total lines h few g = tt
-gathered_within (Some contents) folder paths count total lines h few r =
-    let files = contents folder in
-    let nothing : drop count paths ≡ [] = drop_all count paths h in
-    limit_on-listed files paths r.listed ∙ limit_on-few files paths few ∙ ap (option_map Bytes) (r.sums ∙ ap (λ ps. first_over total (map (size files) ps)) nothing)
-
--- and the lines are those of the folder, once they are sorted
-pub gathered_lines : (told : Option Contents) (folder : List ℕ) (paths : List (List ℕ)) (count total : ℕ) (lines sorted : List Line) → length paths ≤ count → sorted ≡ sorted_lines lines → Gathered told folder paths count total lines → IfSome told (λ contents. sorted ≡ lines_of (contents folder))
-gathered_lines None folder paths count total lines sorted h e g = tt
-gathered_lines (Some contents) folder paths count total lines sorted h e r =
-    let whole : take count paths ≡ module_paths (contents folder) = take_all count paths h ∙ r.listed in
-    e ∙ ap sorted_lines (r.lines_so_far ∙ ap (flat_map (lines_in (contents folder))) whole)
 
 -- there is a file at each path of a folder
 file_there : (f : File) (files : List File) (path : List ℕ) → IsSome (file_at files path) → IsSome (file_at (f ∷ files) path)

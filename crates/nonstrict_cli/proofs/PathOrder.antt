@@ -1,10 +1,9 @@
 -- What sorting paths and dropping repeats makes of them.
-use Rattle.std.proofs.Common.{◌<◌, ◌≤◌, ◌+◌, false, get_or, length, arith, Result, Ok, Err, is_ok, inl, inr, ◌≡◌, ℕ, true, ◌||◌, nat_eq, Bool, List, [], ◌∷◌, Contains, refl, ap, sym, ◌∙◌}
-use Rattle.std.specs.declared.cmp.Ordering.{Ordering}
+use Rattle.std.proofs.Common.{◌<◌, ◌+◌, false, get_or, length, arith, Result, Ok, Err, is_ok, inl, inr, ◌≡◌, ℕ, true, ◌||◌, Bool, List, [], ◌∷◌, Contains, refl, ap, sym, ◌∙◌}
 use Rattle.std.specs.declared.cmp.Ordering.TheVariants.{Less, Equal, Greater}
-use Rattle.std.specs.Ordering.{nat_cmp, eq_by_cmp, is_eq, is_lt, ordering_reverse}
-use Rattle.std.specs.Cmp.{IsTotalOrder, eq_by_cmp_equiv, Equal-is}
-use Rattle.std.specs.Cmp.Lexicographic.{nat_list_cmp_total, pointwise, texts_ties}
+use Rattle.std.specs.Ordering.{eq_by_cmp, is_eq, is_lt, ordering_reverse}
+use Rattle.std.specs.Cmp.{eq_by_cmp_equiv, Equal-is}
+use Rattle.std.specs.Cmp.Lexicographic.{nat_list_cmp_total}
 use Rattle.std.specs.FinMap.{IsAntisymmetric, nat_cmp-IsAntisymmetric, slice_cmp-IsAntisymmetric}
 use Rattle.std.specs.List.{AllWithin, dedup, list_any}
 use Rattle.std.specs.List.Sorted.{IsBinarySearchResult, IsPermutation, IsSearchInRange, IsSorted, IsStrictlySortedBy}

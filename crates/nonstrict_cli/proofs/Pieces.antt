@@ -1,5 +1,5 @@
 -- Writing a text piece by piece.
-use Rattle.std.proofs.Common.{◌≡◌, ◌+◌, ◌≤◌, ◌++◌, ℕ, List, Option, None, Some, length, take, drop, sym, ap, ◌∙◌, append_assoc, IsSomeAnd}
+use Rattle.std.proofs.Common.{◌+◌, ◌≤◌, ◌++◌, ℕ, List, Option, None, Some, length, take, drop, ap, ◌∙◌, append_assoc}
 use Rattle.outside.specs.Written.{Appends}
 use Rattle.outside.proofs.Fronts.{take-add}
 

@@ -1,5 +1,5 @@
 -- The lines of a folder.
-use Rattle.std.specs.Prelude.{◌+◌, ◌-◌, ◌++◌, ◌||◌, ◌==◌, ℕ, Bool, List, [], ◌∷◌, Option, None, Some, unwrap_or, map, filter, flat_map, take, length, nat_eq, nat_lt, codes, if◌then◌else◌, option_map, string_bytes}
+use Rattle.std.specs.Prelude.{◌+◌, ◌-◌, ◌++◌, ◌||◌, ℕ, Bool, List, [], ◌∷◌, Option, None, Some, unwrap_or, map, filter, flat_map, take, length, nat_eq, nat_lt, codes, if◌then◌else◌, option_map}
 use Rattle.std.specs.BTreeSet.{insert_key}
 use Rattle.std.specs.List.{ends_with, list_any}
 use Rattle.std.specs.Str.{bytes_eq}

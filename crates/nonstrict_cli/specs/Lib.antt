@@ -8,3 +8,4 @@ pub mod Output
 pub mod Stop
 pub mod Written
 pub mod Answer
+pub mod Run

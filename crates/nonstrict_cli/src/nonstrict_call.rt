@@ -5,6 +5,7 @@ ghost use Rattle.outside.specs.Written.{Appends};
 ghost use Rattle.nonstrict_cli.specs.Command.{command};
 ghost use Rattle.nonstrict_cli.specs.Output.{output};
 ghost use Rattle.nonstrict_cli.specs.Status.{IsAnswer, IsSilent};
+ghost use Rattle.nonstrict_cli.specs.Run.{EndsWell};
 ghost use Rattle.nonstrict_cli.specs.Written.{AppendsPart};
 
 use crate::Status;
@@ -30,6 +31,11 @@ pub fn nonstrict<T: Tree, S: Sink>(
     // An answer is that of the output, and the output is appended whole.
     ensures status { IsAnswer result → IfSome (T.contents tree.old) (λ contents. result ≡ (output (map string_bytes words.now) contents).status) }
     ensures written { IsAnswer result → IfSome (T.contents tree.old) (λ contents. Appends (S.written sink.old) (S.written sink.new) (output (map string_bytes words.now) contents).bytes) }
+
+    // So where neither the folder nor the output fails, the output is appended whole with its status, or memory ran out
+    // and nothing is written.
+    ensures complete { IfSome (T.contents tree.old) (λ contents. ¬ (Rose (T.faults tree.old) (T.faults tree.new)) → ¬ (Rose (S.faults sink.old) (S.faults sink.new)) →
+        EndsWell S.written sink.old sink.new result (output (map string_bytes words.now) contents)) }
 
     // The other statuses have a cause. Want of memory has none, and comes before the first write.
     ensures read_fault { result ≡ Status.ReadFault → Rose (T.faults tree.old) (T.faults tree.new) }

@@ -4,7 +4,7 @@ use outside::{List, MemorySink, Root, Text, memory_sink, memory_tree};
 use std::alloc::Global;
 use std::test::Fail;
 
-const NO_ABS: &str = "a.luau:1:1: refused: form not built\n";
+const NOT_BUILT: &str = "a.luau:1:1: refused: form not built\n";
 
 /// The root `d` with these files, which are in the order of their paths.
 fn root(alloc: Global, files: &[(&str, &[u8])]) -> Result<Root, Fail> {
@@ -31,6 +31,15 @@ fn run(
     }
     let mut tree = memory_tree(vec![in alloc; root]?, Vec::from_slice(alloc, failing)?);
     Ok(nonstrict(alloc, &list, &mut tree, sink))
+}
+
+/// A text of so many blanks.
+fn blanks(alloc: Global, count: usize) -> Result<Vec<u8>, Fail> {
+    let mut text = Vec::new(alloc);
+    for _ in 0..count {
+        text.push(b' ')?;
+    }
+    Ok(text)
 }
 
 fn any_sink(alloc: Global) -> Result<MemorySink, Fail> {
@@ -96,7 +105,7 @@ fn other_texts_are_refused(rt: HostRuntime) -> Result<(), Fail> {
         let mut sink = any_sink(alloc)?;
         let status = run(alloc, "d;", root, &[], &mut sink)?;
         assert_eq!(rt; status, Status::Refused, "of {text:?}");
-        assert_eq!(rt; sink.written(), NO_ABS.as_bytes(), "of {text:?}");
+        assert_eq!(rt; sink.written(), NOT_BUILT.as_bytes(), "of {text:?}");
     }
     let whole = b"math . abs ( \"hi\" )".as_slice();
     for len in 1..whole.len() {
@@ -106,7 +115,7 @@ fn other_texts_are_refused(rt: HostRuntime) -> Result<(), Fail> {
         assert_eq!(rt; status, Status::Refused, "of the first {len} bytes");
         assert_eq!(rt;
             sink.written(),
-            NO_ABS.as_bytes(),
+            NOT_BUILT.as_bytes(),
             "of the first {len} bytes"
         );
     }
@@ -232,7 +241,6 @@ fn an_output_that_fails_keeps_its_front(rt: HostRuntime) -> Result<(), Fail> {
 #[test]
 fn limits_are_told_with_their_numbers(rt: HostRuntime) -> Result<(), Fail> {
     let alloc = rt.alloc();
-    let blanks = vec![in alloc; b' '; 1_048_576]?;
     for (count, size, expected) in [
         (64u32, 1_048_576usize, Status::Clean),
         (65, 1_048_576, Status::TooLarge(Limit::Bytes(68_157_440))),
@@ -242,8 +250,7 @@ fn limits_are_told_with_their_numbers(rt: HostRuntime) -> Result<(), Fail> {
         let mut list = Vec::new(alloc);
         for i in 0..count {
             let path = Text::of(format!(in alloc; "m{i:05}.luau")?);
-            assert!(rt; size <= blanks.len());
-            list.push((path, List::of(Vec::from_slice(alloc, &blanks[..size])?)))?;
+            list.push((path, List::of(blanks(alloc, size)?)))?;
         }
         let name = Text::of(String::from_str(alloc, "d")?);
         let files = Root::new(name, List::of(list)).ok_or("not in order")?;
@@ -263,16 +270,13 @@ fn limits_are_told_with_their_numbers(rt: HostRuntime) -> Result<(), Fail> {
 #[test]
 fn a_file_past_its_limit_is_refused(rt: HostRuntime) -> Result<(), Fail> {
     let alloc = rt.alloc();
-    let blanks = vec![in alloc; b' '; 1_048_577]?;
-    assert_eq!(rt; blanks.len(), 1_048_577);
-    let mut sink = any_sink(alloc)?;
+    let most = blanks(alloc, 1_048_576)?;
+    let more = blanks(alloc, 1_048_577)?;
     let files = root(
         alloc,
-        &[
-            ("a.luau", &blanks[..1_048_576]),
-            ("b.luau", blanks.as_slice()),
-        ],
+        &[("a.luau", most.as_slice()), ("b.luau", more.as_slice())],
     )?;
+    let mut sink = any_sink(alloc)?;
     assert_eq!(rt; run(alloc, "d;", files, &[], &mut sink)?, Status::Refused);
     assert_eq!(rt;
         sink.written(),

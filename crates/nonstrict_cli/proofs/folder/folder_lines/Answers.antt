@@ -1,4 +1,4 @@
-use Rattle.std.proofs.Common.{◌≡◌, ◌≤◌, ◌<◌, ℕ, List, get_or, Option, Some, IfSome, IsSome, length, arith, subst, sym, ◌∙◌, vec_len, rules}
+use Rattle.std.proofs.Common.{◌≡◌, ◌≤◌, ℕ, List, get_or, Option, Some, IfSome, IsSome, length, arith, subst, sym, ◌∙◌}
 use Rattle.std.proofs.lemmas.Result.{err_from_is_err_and}
 use Rattle.outside.specs.Cause.{Rose}
 use Rattle.outside.specs.Contents.{Contents, file_at}

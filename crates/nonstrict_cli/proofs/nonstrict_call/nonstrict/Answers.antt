@@ -1,5 +1,5 @@
-use Rattle.std.proofs.Common.{◌≡◌, None, Err, map, string_bytes, ap, sym}
-use Rattle.nonstrict_cli.proofs.Ends.{ended_bytes, ended_status, not_read_fault, not_silent, not_usage, not_write_fault}
+use Rattle.std.proofs.Common.{Err, map, string_bytes, ap}
+use Rattle.nonstrict_cli.proofs.Ends.{answer_ends_well, ended_bytes, ended_status, stop_ends_well, not_read_fault, not_silent, not_usage, not_write_fault}
 use Rattle.nonstrict_cli.proofs.nonstrict_call.nonstrict.Goals as goal
 
 pub returns-in-Err-clause-status : goal.returns-in-Err-clause-status
@@ -22,3 +22,11 @@ returns-then-write_whole-clause-write_fault g c = λ e. absurd (not_write_fault 
 
 pub returns-then-write_whole-clause-silent : goal.returns-then-write_whole-clause-silent
 returns-then-write_whole-clause-silent g c = λ h. absurd (not_silent c.in-Ok.answer.status c.in-Ok.ensures.checked h)
+
+pub returns-in-Err-clause-complete : goal.returns-in-Err-clause-complete
+returns-in-Err-clause-complete g c =
+    rw c.into.ensures (stop_ends_well g.S.Sink.written (map string_bytes c.args.words.now) (g.T.Tree.contents c.args.tree.now) c.in-Err.stop c.args.sink.now _ _ (λ e. c.in-Err.ensures.usage.0 (ap Err e)) (λ limit e. c.in-Err.ensures.too_large limit (ap Err e)) (λ e. c.in-Err.ensures.read_fault (ap Err e)))
+
+pub returns-then-write_whole-clause-complete : goal.returns-then-write_whole-clause-complete
+returns-then-write_whole-clause-complete g c =
+    answer_ends_well g.S.Sink.written (map string_bytes c.args.words.now) (g.T.Tree.contents c.args.tree.now) c.in-Ok.answer c.args.sink.now c.write_whole.new.sink _ _ c.in-Ok.ensures.answer (rw (← c.as_slice.ensures.value) c.if-write_whole.ensures.whole)

@@ -1,0 +1,45 @@
+#!/usr/bin/env bash
+# Times the built program on large folders, beside plain tools that go over the same bytes. Prints for each folder the
+# seconds of both and their ratio. Run `make build` first; nothing depends on what this prints.
+set -eu
+cd "$(dirname "$0")/.."
+program=$PWD/bin/luau-nonstrict
+[ -x "$program" ] || { echo "no bin/luau-nonstrict: run 'make build' first" >&2; exit 1; }
+work=$(mktemp -d)
+trap 'rm -rf "$work"' EXIT
+
+# The least of five times of a command, in seconds; what it prints is dropped.
+seconds() {
+    local best='' start end
+    for _ in 1 2 3 4 5; do
+        start=$(date +%s%N)
+        "$@" >/dev/null 2>&1 || true
+        end=$(date +%s%N)
+        local took=$((end - start))
+        if [ -z "$best" ] || [ "$took" -lt "$best" ]; then best=$took; fi
+    done
+    awk -v ns="$best" 'BEGIN { printf "%.3f", ns / 1e9 }'
+}
+
+# One row: a name, the folder, and the yardstick with its words.
+row() {
+    local name=$1 folder=$2
+    shift 2
+    local ours theirs
+    ours=$(seconds "$program" "$folder")
+    theirs=$(seconds "$@")
+    awk -v n="$name" -v a="$ours" -v b="$theirs" -v y="$1" \
+        'BEGIN { printf "%-34s %8ss  %-5s %8ss  ratio %.1f\n", n, a, y, b, a / (b > 0 ? b : 0.001) }'
+}
+
+mkdir "$work/blanks" "$work/empty" "$work/calls" "$work/names"
+head -c 1048576 /dev/zero | tr '\0' ' ' >"$work/blank"
+for i in $(seq -w 1 64); do cp "$work/blank" "$work/blanks/m$i.luau"; done
+for i in $(seq -w 1 10000); do : >"$work/empty/m$i.luau"; done
+awk 'BEGIN { for (i = 0; i < 87381; i++) print "math.abs(1)" }' >"$work/calls/numbers.luau"
+awk 'BEGIN { for (i = 0; i < 65536; i++) print "math.abs(\"\")   " }' >"$work/calls/strings.luau"
+find "$work/empty" -name '*.luau' | sort -R >"$work/names/list"
+
+row '64 files of 1,048,576 blanks' "$work/blanks" wc -c "$work"/blanks/*.luau
+row '2 files of calls, about 2 MiB' "$work/calls" wc -c "$work"/calls/*.luau
+row '10,000 empty files' "$work/empty" sort "$work/names/list"
