@@ -27,6 +27,7 @@ IsInside None low high e = (low ≤ activation_of e) × (activation_of e < high)
 IsInside (Some runs) low high (Reach activation module_at place) = (activation ≡ runs) ⊎ ((low ≤ activation) × (activation < high))
 IsInside (Some runs) low high (Leave activation) = (low ≤ activation) × (activation < high)
 
+-- each of the events is inside
 abbrev pub AllInside : (runs : Option ℕ) → (low high : ℕ) → List Event → Type 0
 AllInside runs low high [] = ⊤
 AllInside runs low high (e ∷ events) = IsInside runs low high e × AllInside runs low high events

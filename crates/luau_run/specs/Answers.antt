@@ -7,6 +7,7 @@ use Rattle.luau_values.specs.Heap.{is_frozen}
 use Rattle.luau_run.specs.Program.{Program, declaration}
 use Rattle.luau_run.specs.Machine.{Act, Write, Freeze, Make, Calls, Catches, Answer, One, Says, Fail, Turn, Stop, Does, Done, Store, Reply, Unfit, Fails, Fits}
 
+-- whether two closures captured the same cells
 abbrev pub same_cells : List (ℕ × ℕ) → List (ℕ × ℕ) → Bool
 same_cells [] [] = true
 same_cells (x ∷ xs) (y ∷ ys) = (x.0 == y.0) && (x.1 == y.1) && same_cells xs ys
@@ -24,6 +25,7 @@ is_there program store (Lit home function cells) = list_any (λ c. is_closure ho
 is_there program store (Builtin path) = is_some (declaration program.builtins path)
 is_there program store _ = true
 
+-- whether all values can be there by now
 abbrev pub all_there : Program → Store → List Value → Bool
 all_there program store values = list_all (is_there program store) values
 
@@ -77,6 +79,7 @@ yes_or_fail _ = Unfit
 abbrev pub is_other_kind : List ℕ → Bool
 is_other_kind name = not (list_any (bytes_eq name) (codes "nil" ∷ codes "boolean" ∷ codes "number" ∷ codes "string" ∷ codes "function" ∷ []))
 
+-- what `type` may say of what is `Other`
 abbrev pub other_kind : Answer → Reply Value
 other_kind (One (Str name)) = fits_if (is_other_kind name) (Str name)
 other_kind _ = Unfit
@@ -104,14 +107,17 @@ pub data Freedom : Type 0 where
   Free : Freedom
   Quiet : (from : ℕ) → Freedom
 
+-- whether acts may call and freeze
 abbrev pub may_call : Freedom → Bool
 may_call Free = true
 may_call (Quiet from) = false
 
+-- whether acts may write to a table
 abbrev pub may_write : Freedom → ℕ → Bool
 may_write Free table = true
 may_write (Quiet from) table = nat_le from table
 
+-- whether a value is a closure or a builtin
 abbrev pub is_function : Value → Bool
 is_function (Lit home function cells) = true
 is_function (Builtin path) = true
@@ -121,6 +127,7 @@ is_function _ = false
 abbrev pub is_open : Store → ℕ → Bool
 is_open store table = nat_lt table (length store.heap) && not (is_frozen store.heap table)
 
+-- whether an act fits: its tables are there and not frozen, its values are there, and it is free enough
 abbrev pub act_fits : Program → Store → Freedom → Act → Bool
 act_fits program store freedom (Write table name value) = is_open store table && may_write freedom table && is_there program store value
 act_fits program store freedom (Freeze table) = is_open store table && may_call freedom
@@ -133,6 +140,7 @@ pub data Move : Type 0 where
   Acts : (act : Act) → Move
   Ends : (values : Option (List Value)) → Move
 
+-- an act that fits, a failure, or an end that fits the aim
 abbrev pub a_move : Program → Store → Freedom → Aim → Answer → Reply Move
 a_move program store freedom aim (Does act) = fits_if (act_fits program store freedom act) (Acts act)
 a_move program store freedom aim Fail = Fails

@@ -19,6 +19,7 @@ act layer Make = make_table [] >> give tt
 act layer (Calls callee args) = step >> layer.call callee args >> give tt
 act layer (Catches callee args) = step >> catch (layer.call callee args) >> give tt
 
+-- an act and what follows it, or the end
 abbrev pub acts_from : Layer → Freedom → Aim → Move → Part (Option (List Value))
 acts_from layer freedom aim (Acts a) = act layer a >> layer.acts freedom aim
 acts_from layer freedom aim (Ends values) = give values
@@ -55,10 +56,12 @@ frozen (Tab address) = do
   give (Tab address)
 frozen _ = fail
 
+-- the results that acts ended with
 abbrev pub results_or_none : Option (List Value) → List Value
 results_or_none None = []
 results_or_none (Some results) = results
 
+-- how free a builtin is that is called where the heap has so many tables
 abbrev pub freedom_of : Signature → ℕ → Freedom
 freedom_of signature from = if signature.quiet then Quiet from else Free
 
@@ -83,6 +86,7 @@ declared_call layer (Some signature) path args = do
   store ← look
   if signature.checked && not (takes signature store.heap args) then fail else meaning layer signature path args
 
+-- a call of a builtin
 unfoldable pub call_builtin : Program → Layer → List ℕ → List Value → Part (List Value)
 call_builtin program layer path args = declared_call layer (declaration program.builtins path) path args
 
@@ -101,6 +105,7 @@ abbrev pub returned : Ending → List Value
 returned (Returns values) = values
 returned _ = []
 
+-- the values after the first
 abbrev pub after_first : List Value → List Value
 after_first [] = []
 after_first (v ∷ values) = values
@@ -156,6 +161,7 @@ enter layer (Some reading) cells at code args = do
   ending ← activate (λ activation. run_in layer (frame_of at reading (kept_args code args) activation) cells code args)
   give (returned ending)
 
+-- a call of a closure that was made
 abbrev pub call_closure : Program → Layer → List (ℕ × ℕ) → Option Closure → List Value → Part (List Value)
 call_closure program layer cells None args = spend
 call_closure program layer cells (Some c) args = enter layer (slice_get program.modules c.module_at) cells c.module_at c.code args
@@ -169,6 +175,7 @@ call program layer (Builtin path) args = call_builtin program layer path args
 call program layer (Other number) args = layer.acts Free ForResults >>= (λ results. give (results_or_none results))
 call program layer _ args = fail
 
+-- the value of a loaded module
 abbrev pub loaded_value : List (ℕ × Value) → ℕ → Option Value
 loaded_value [] at = None
 loaded_value (l ∷ loaded) at = if l.0 == at then Some l.1 else loaded_value loaded at
@@ -182,6 +189,7 @@ abbrev pub enter_module : Layer → ℕ → Option ReadModule → Part Ending
 enter_module layer at None = spend
 enter_module layer at (Some reading) = activate (λ activation. block layer (frame_of at reading [] activation) reading.block)
 
+-- the loaded value, or a run of the module, whose first value is given and kept
 abbrev pub require_from : Program → Layer → ℕ → Option Value → Part (List Value)
 require_from program layer at (Some value) = give (value ∷ [])
 require_from program layer at None = do
@@ -190,6 +198,7 @@ require_from program layer at None = do
   change (λ s. record s { loaded = keep_loaded at value s.loaded })
   give (value ∷ [])
 
+-- a module that is required
 unfoldable pub require : Program → Layer → ℕ → Part (List Value)
 require program layer at = do
   store ← look

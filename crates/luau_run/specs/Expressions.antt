@@ -42,9 +42,11 @@ abbrev pub cell_or_spend : Option ℕ → Part ℕ
 cell_or_spend None = spend
 cell_or_spend (Some cell) = give cell
 
+-- the cell that a local stands for now
 abbrev pub local_cell : Frame → ℕ → Part ℕ
 local_cell frame local = look >>= (λ store. cell_or_spend (cell_of store.bindings frame.activation local))
 
+-- what a cell holds, without which a run is spent
 abbrev pub cell_value : Option Value → Part Value
 cell_value None = spend
 cell_value (Some v) = give v
@@ -89,6 +91,7 @@ make_closure frame code = do
   change (λ s. record s { closures = s.closures ++ record { value = closure; module_at = frame.module_at; code = code } ∷ [] })
   give closure
 
+-- whether a name stands for a library
 abbrev pub stands_for_library : Option Use → Bool
 stands_for_library (Some UseLibrary) = true
 stands_for_library _ = false
@@ -101,6 +104,7 @@ is_library frame (the_expr id span kind) = stands_for_library (frame.reading.use
 abbrev pub either_value : Layer → Frame → (done : Bool) → Value → Expr → Part Value
 either_value layer frame done v right = if done then give v else value layer frame right
 
+-- the rest of a binary operation, after the left side
 abbrev pub binary_rest : Program → Layer → Frame → BinOp → Value → Expr → Part Value
 binary_rest program layer frame And v right = either_value layer frame (not (is_true v)) v right
 binary_rest program layer frame Or v right = either_value layer frame (is_true v) v right
@@ -131,6 +135,7 @@ item_fields layer frame (more_items (Keyed key e) rest) fields = do
   item_fields layer frame rest more
 item_fields layer frame (more_items (Plain e) rest) fields = layer.values frame e >> item_fields layer frame rest fields
 
+-- a part that gives one value, as a list
 abbrev pub one : Part Value → Part (List Value)
 one part = part >>= (λ v. give (v ∷ []))
 

@@ -7,7 +7,7 @@ use Rattle.luau_run.specs.Program.{Kind, Declared, Use, UseLocal, UseBuiltin, Us
 use Rattle.luau_run.specs.Machine.{Answer, Ran, Gave}
 use Rattle.luau_run.specs.Layer.{Ending, Returns}
 use Rattle.luau_run.specs.Run.{run}
-use Rattle.luau_run.specs.Examples.{abs, somewhere}
+use Rattle.luau_run.specs.Examples.{a_number, abs, somewhere}
 
 abbrev pub anything : Kind
 anything heap v = true
@@ -158,3 +158,21 @@ failing =
     ∷ nil_then (Local (alone 1) (exprs_of (element_of_t ∷ [])))
     ∷ nil_then (Local (alone 1) (exprs_of (e 9 (Binary Concat (name 10) (e 12 (StrExpr (codes "s")))) ∷ [])))
     ∷ nil_then (Compound element_of_t Add (e 12 one)) ∷ []
+
+-- `local function f(x) end`, `f(V)`, where the annotation of `x` says that it is a number
+abbrev pub annotated_call : ExprKind → Program
+annotated_call argument = over (
+    record (module_of 1
+    (LocalFunction (declared 0) (the_body 0 false no_gens (alone 1) no_varargs no_type no_stats somewhere)
+    ∷ CallStat (e 0 (Call (name 1) (exprs_of (e 2 argument ∷ [])))) ∷ [])
+    ((1, UseLocal 0) ∷ []) []) { annotated = λ function index. a_number }
+    ∷ [])
+
+-- `return math.none`, and the same by `local m = math`
+abbrev pub off_library : Program
+off_library = over (module_of 1 (Return (exprs_of (e 0 (Index (name 1) (codes "none")) ∷ [])) ∷ []) ((1, UseLibrary) ∷ []) [] ∷ [])
+
+abbrev pub off_table : Program
+off_table = over (module_of 1
+    (Local (alone 0) (exprs_of (name 0 ∷ [])) ∷ Return (exprs_of (e 1 (Index (name 2) (codes "none")) ∷ [])) ∷ [])
+    ((0, UseLibrary) ∷ (2, UseLocal 0) ∷ []) [] ∷ [])

@@ -31,6 +31,7 @@ pub data Loop : Type 0 where
   TableLoop : (binds : Binds) (body : Block) → Loop
   OtherLoop : (binds : Binds) (body : Block) → Loop
 
+-- what runs of a bounded depth do with each form of syntax, with calls and with acts
 pub record Layer : Type 0 where
   -- evaluates an expression to its values: more or fewer than one only where a call or `...` expands
   pub values : Frame → Expr → Part (List Value)

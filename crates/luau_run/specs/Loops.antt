@@ -40,6 +40,7 @@ turn_with layer frame binds body again (Some values) = do
   ending ← block layer frame body
   next_turn again ending
 
+-- a turn of a numeric `for`, or its end
 abbrev pub number_turn : Layer → Frame → ℕ → Block → Part Ending → Option Value → Part Ending
 number_turn layer frame local body again None = give Falls
 number_turn layer frame local body again (Some v) = do
@@ -54,6 +55,7 @@ function_turn layer frame iterator second binds body values =
     if is_nil (first values) then give Falls
     else turn_with layer frame binds body (layer.turns frame (FunctionLoop iterator second (first values) binds body)) (Some values)
 
+-- what a turn of a loop does once it has taken its step
 abbrev pub turn : Program → Layer → Frame → Loop → Part Ending
 turn program layer frame (WhileLoop cond body) = do
   c ← value layer frame cond

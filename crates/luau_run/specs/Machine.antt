@@ -70,6 +70,7 @@ pub data Ran (A : Type 0) : Type 0 where
 abbrev pub Part : Type 0 → Type 0
 Part A = State → Ran A
 
+-- what follows the end of a part
 abbrev pub go_on : {A B : Type 0} → Ran A → (A → Part B) → Ran B
 go_on (Gave given state) next = next given state
 go_on (Failed state) next = Failed state
@@ -81,18 +82,23 @@ infixl 4 ◌>>◌
 unfoldable pub ◌>>=◌ : {A B : Type 0} → Part A → (A → Part B) → Part B
 ◌>>=◌ part next state = go_on (part state) next
 
+-- one part, and then another
 abbrev pub ◌>>◌ : {A B : Type 0} → Part A → Part B → Part B
 ◌>>◌ part next = ◌>>=◌ part (λ _. next)
 
+-- gives something at once
 unfoldable pub give : {A : Type 0} → A → Part A
 give given state = Gave given state
 
+-- fails
 unfoldable pub fail : {A : Type 0} → Part A
 fail state = Failed state
 
+-- is spent
 unfoldable pub spend : {A : Type 0} → Part A
 spend state = Spent state
 
+-- a step, where so many are left
 abbrev pub step_of : ℕ → Part (Unit {0})
 step_of zero state = Spent state
 step_of (suc left) state = Gave tt (record state { steps = left })
@@ -101,6 +107,7 @@ step_of (suc left) state = Gave tt (record state { steps = left })
 unfoldable pub step : Part (Unit {0})
 step state = step_of state.steps state
 
+-- logs an event
 unfoldable pub log : Event → Part (Unit {0})
 log event state = Gave tt (record state { trace = state.trace ++ event ∷ [] })
 
@@ -108,6 +115,7 @@ log event state = Gave tt (record state { trace = state.trace ++ event ∷ [] })
 unfoldable pub look : Part Store
 look state = Gave state.store state
 
+-- changes the store
 unfoldable pub change : (Store → Store) → Part (Unit {0})
 change f state = Gave tt (record state { store = f state.store })
 
@@ -117,11 +125,13 @@ pub data Reply (A : Type 0) : Type 0 where
   Fails : Reply A
   Fits : (said : A) → Reply A
 
+-- what a reply does, from the states before and after the answer is taken
 abbrev pub replied : {A : Type 0} → Reply A → (before after : State) → Ran A
 replied Unfit before after = Spent before
 replied Fails before after = Failed after
 replied (Fits said) before after = Gave said after
 
+-- what is done with what is left of the tape
 abbrev pub asked : {A : Type 0} → (Answer → Reply A) → List Answer → Part A
 asked reply [] state = Spent state
 asked reply (answer ∷ rest) state = replied (reply answer) state (record state { tape = rest })
@@ -130,6 +140,7 @@ asked reply (answer ∷ rest) state = replied (reply answer) state (record state
 unfoldable pub ask : {A : Type 0} → (Answer → Reply A) → Part A
 ask reply state = asked reply state.tape state
 
+-- a failure as an end without anything given
 abbrev pub caught : {A : Type 0} → Ran A → Ran (Option A)
 caught (Gave given state) = Gave (Some given) state
 caught (Failed state) = Gave None state
@@ -152,6 +163,7 @@ write_field table name value state =
     if is_frozen state.store.heap table then Failed state
     else Gave tt (record state { store = record state.store { heap = with_field table name value state.store.heap } })
 
+-- freezes a table
 abbrev pub freeze_table : ℕ → Part (Unit {0})
 freeze_table table = change (λ s. record s { heap = with_frozen table s.heap })
 
@@ -162,6 +174,7 @@ new_cell value = do
   change (λ s. record s { cells = s.cells ++ value ∷ [] })
   give (length store.cells)
 
+-- puts a value into a cell
 abbrev pub set_cell : ℕ → Value → Part (Unit {0})
 set_cell cell value = change (λ s. record s { cells = slice_set s.cells cell value })
 

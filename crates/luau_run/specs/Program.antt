@@ -77,5 +77,6 @@ pub record Program : Type 0 where
   pub modules : List ReadModule
   pub builtins : List Declared
 
+-- the paths of the declared builtins
 abbrev pub paths : Program → List (List ℕ)
 paths program = map (λ d. d.path) program.builtins

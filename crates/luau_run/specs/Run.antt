@@ -50,6 +50,7 @@ abbrev pub run : Program → (entry steps : ℕ) → List Answer → Ran Ending
 run program entry steps tape =
     enter_module (layer_of program (suc (steps + length tape))) entry (slice_get program.modules entry) (start program steps tape)
 
+-- the state in which a part ends
 abbrev pub end_of : {A : Type 0} → Ran A → State
 end_of (Gave given state) = state
 end_of (Failed state) = state

@@ -22,6 +22,7 @@ pub data Target : Type 0 where
   FieldTarget : (off_library : Bool) (base : Value) (name : List ℕ) → Target
   ElementTarget : (off_library : Bool) (base key : Value) → Target
 
+-- the target that a name is
 abbrev pub name_target : Option Use → Target
 name_target (Some (UseLocal local)) = LocalTarget local
 name_target _ = GlobalTarget
@@ -38,6 +39,7 @@ target layer frame (the_expr id span (At base key)) = do
   give (ElementTarget (is_library frame base) b k)
 target layer frame (the_expr id span kind) = spend
 
+-- the targets of an assignment, from the left
 abbrev pub targets : Layer → Frame → Exprs → Part (List Target)
 targets layer frame no_exprs = give []
 targets layer frame (more_exprs e rest) = do
@@ -53,6 +55,7 @@ set_other (Tab address) = do
 set_other (Other number) = ask yes_or_fail
 set_other _ = fail
 
+-- a write by a key; only a string is a name
 abbrev pub set_element : (key written base : Value) → Part (Unit {0})
 set_element (Str name) written base = set_field name written base
 set_element key written base = set_other base
@@ -76,6 +79,7 @@ read_from program frame GlobalTarget = look >>= (λ store. ask (a_value program 
 read_from program frame (FieldTarget off base name) = named_field program off name base
 read_from program frame (ElementTarget off base key) = element program off key base
 
+-- the number of an expression
 abbrev pub place_of : Expr → ℕ
 place_of (the_expr id span kind) = id
 
@@ -98,27 +102,32 @@ branches layer frame (more_arms cond body rest) last = do
   c ← value layer frame cond
   if is_true c then block layer frame body else branches layer frame rest last
 
+-- whether a sort is that of no bound
 abbrev pub is_wrong_sort : Sort → Bool
 is_wrong_sort WrongSort = true
 is_wrong_sort _ = false
 
--- a numeric `for` begins: a bound that is nil, a boolean, a function or a table fails; one that is a string or
--- something else may fail
+-- whether a value is no bound
 abbrev pub is_wrong : Value → Bool
 is_wrong v = is_wrong_sort (sort v)
 
+-- whether a sort is that of numbers
 abbrev pub is_number_sort : Sort → Bool
 is_number_sort NumberSort = true
 is_number_sort _ = false
 
+-- whether a value is a number
 abbrev pub is_number : Value → Bool
 is_number v = is_number_sort (sort v)
 
+-- a numeric `for` begins: a bound that is nil, a boolean, a function or a table fails; one that is a string or
+-- something else may fail
 abbrev pub begin_for : List Value → Part (Unit {0})
 begin_for bounds =
     if list_any is_wrong bounds then fail
     else (if list_any (λ v. not (is_number v)) bounds then ask yes_or_fail else give tt)
 
+-- the bound that may be written
 abbrev pub bounds_of : Layer → Frame → MaybeExpr → Part (List Value)
 bounds_of layer frame no_expr = give []
 bounds_of layer frame (an_expr e) = value layer frame e >>= (λ v. give (v ∷ []))
@@ -155,6 +164,7 @@ define_local frame (the_bind name span typ) code = do
   set_cell cell closure
   give Falls
 
+-- a numeric `for`: its bounds, its begin, its turns
 abbrev pub number_for : Layer → Frame → Bind → (from to : Expr) → MaybeExpr → Block → Part Ending
 number_for layer frame (the_bind name span typ) from to by body = do
   a ← value layer frame from

@@ -2,12 +2,12 @@
 
 ghost use Rattle.std.specs.Prelude.{◌≡◌, [], ◌∷◌, Some, codes, map};
 ghost use Rattle.luau_values.specs.Value.{Nil, Num, Str, Lit};
-ghost use Rattle.luau_tree.specs.Tree.{NilExpr, StrExpr};
-ghost use Rattle.luau_tree.specs.declared.names.Place.TheVariants.{Expr as ExprPlace};
-ghost use Rattle.luau_run.specs.Machine.{Turn, Stop, Does, Catches, Done, Reach, Leave};
+ghost use Rattle.luau_tree.specs.Tree.{NilExpr, NumberExpr, StrExpr};
+ghost use Rattle.luau_tree.specs.declared.names.Place.TheVariants.{Expr as ExprPlace, Param};
+ghost use Rattle.luau_run.specs.Machine.{One, Turn, Stop, Does, Catches, Done, Reach, Leave};
 ghost use Rattle.luau_run.specs.Examples.{Failure, outcome};
 ghost use Rattle.luau_run.specs.Run.{run, trace};
-ghost use Rattle.luau_run.specs.Forms.{gives, assigned_by_closure, field_written, counted, broken_off, required, caught_failure, failing};
+ghost use Rattle.luau_run.specs.Forms.{gives, assigned_by_closure, field_written, counted, broken_off, required, caught_failure, failing, annotated_call, off_library, off_table};
 
 /// What modules return, with enough steps and the answers that they ask for.
 pub fn modules_that_return()
@@ -17,6 +17,8 @@ pub fn modules_that_return()
     ensures turns { gives counted 50 (Turn (Num (codes "7") ∷ []) ∷ Stop ∷ []) ≡ Some (Num (codes "7") ∷ []) }
     ensures no_turns { gives counted 50 (Stop ∷ []) ≡ Some (Nil ∷ []) }
     ensures break_ends { gives broken_off 50 [] ≡ Some (Num (codes "1") ∷ []) }
+    ensures undeclared { gives off_library 50 (One (Num (codes "3")) ∷ []) ≡ Some (Num (codes "3") ∷ []) }
+    ensures absent_field { gives off_table 50 [] ≡ Some (Nil ∷ []) }
     ensures other_module { gives required 50 [] ≡ Some (Str (codes "x") ∷ []) }
 {}
 
@@ -31,4 +33,14 @@ pub fn failure_that_is_caught()
 /// What fails for certain asks for no answer.
 pub fn modules_that_fail()
     ensures { map (λ program. outcome (run program 0 50 [])) failing ≡ Failure ∷ Failure ∷ Failure ∷ Failure ∷ Failure ∷ Failure ∷ Failure ∷ [] }
+{}
+
+/// A parameter's place is reached, after the call's arguments and before the body, where the argument is in its annotation.
+pub fn parameter_that_is_reached()
+    ensures number { trace (annotated_call (NumberExpr (codes "1"))) 0 50 []
+        ≡ Reach 0 0 (ExprPlace (record { 0 = 0 })) ∷ Reach 0 0 (ExprPlace (record { 0 = 1 })) ∷ Reach 0 0 (ExprPlace (record { 0 = 2 }))
+        ∷ Reach 1 0 (Param (record { 0 = 0 }) 0) ∷ Leave 1 ∷ Leave 0 ∷ [] }
+    ensures string { trace (annotated_call (StrExpr (codes "s"))) 0 50 []
+        ≡ Reach 0 0 (ExprPlace (record { 0 = 0 })) ∷ Reach 0 0 (ExprPlace (record { 0 = 1 })) ∷ Reach 0 0 (ExprPlace (record { 0 = 2 }))
+        ∷ Leave 1 ∷ Leave 0 ∷ [] }
 {}

@@ -34,3 +34,11 @@ returns-clause-break_ends c = refl
 pub returns-clause-other_module : goal.returns-clause-other_module
 unfolding ◌>>=◌ give fail spend step log look change ask catch write_field activate anything acts call_builtin call require values turns stat
 returns-clause-other_module c = refl
+
+pub returns-clause-undeclared : goal.returns-clause-undeclared
+unfolding ◌>>=◌ give fail spend step log look change ask catch write_field activate anything acts call_builtin call require values turns stat
+returns-clause-undeclared c = refl
+
+pub returns-clause-absent_field : goal.returns-clause-absent_field
+unfolding ◌>>=◌ give fail spend step log look change ask catch write_field activate anything acts call_builtin call require values turns stat
+returns-clause-absent_field c = refl
