@@ -16,7 +16,7 @@ use std::{fs, io};
 
 /// The folders of the file system as roots of files. A root's name is the folder's path, and the root without a name
 /// is the folder in which the program runs, whose files may be named by any path and through links. In every other
-/// root, as in every listing, a link is none of the files. It tells no contents.
+/// root, as in every listing, a path whose last part is a link is none of the files. It tells no contents.
 #[derive(Drop)]
 pub struct FolderTree<R> {
     rt: R,
