@@ -1,5 +1,6 @@
-pub mod Faults
 pub mod PathOrder
 pub mod Gathering
 pub mod Pieces
 pub mod Ends
+pub mod Cuts
+pub mod Calls

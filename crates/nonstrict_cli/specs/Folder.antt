@@ -1,8 +1,9 @@
 -- The lines of a folder.
-use Rattle.std.specs.Prelude.{◌+◌, ◌-◌, ◌++◌, ◌||◌, ℕ, Bool, List, [], ◌∷◌, Option, None, Some, unwrap_or, map, filter, flat_map, take, length, nat_eq, nat_lt, codes, if◌then◌else◌, option_map}
+use Rattle.std.specs.Prelude.{Result, Ok, Err, drop, ◌+◌, ◌-◌, ◌++◌, ◌||◌, ℕ, Bool, List, [], ◌∷◌, Option, None, Some, unwrap_or, map, filter, flat_map, take, length, nat_eq, nat_lt, codes, if◌then◌else◌, option_map}
 use Rattle.std.specs.BTreeSet.{insert_key}
-use Rattle.std.specs.List.{ends_with, list_any}
+use Rattle.std.specs.List.{ends_with, list_any, starts_with}
 use Rattle.std.specs.Str.{bytes_eq}
+use Rattle.luau_tree.specs.declared.position.Pos.{Pos}
 use Rattle.luau_tree.specs.declared.position.TheConstants.{MAX_TEXT}
 use Rattle.luau_tree.specs.Position.{pos_at}
 use Rattle.diag_text.specs.declared.line.Line.{Line}
@@ -12,7 +13,10 @@ use Rattle.outside.specs.Contents.{File, file_at, paths_of}
 use Rattle.nonstrict_cli.specs.declared.status.Limit.{Limit}
 use Rattle.nonstrict_cli.specs.declared.status.Limit.TheVariants.{Files, Bytes}
 use Rattle.nonstrict_cli.specs.declared.limits.TheConstants.{MAX_FILES, MAX_READ, MAX_TOTAL}
-use Rattle.nonstrict_cli.specs.Form.{faults}
+use Rattle.luau_lex.specs.declared.token.LexError.{LexError}
+use Rattle.luau_lex.specs.Tokens.{Tok, tokens_of}
+use Rattle.nonstrict_cli.specs.Fault.{place_of, reason_of}
+use Rattle.nonstrict_cli.specs.Form.{faults_in}
 
 -- whether a path is that of a module: it ends in `.luau` or in `.lua`
 abbrev pub is_module_path : List ℕ → Bool
@@ -35,18 +39,35 @@ module_paths files = modules_among (paths_of files)
 abbrev pub source : List File → List ℕ → List ℕ
 source files path = take MAX_READ (unwrap_or (file_at files path) [])
 
--- the line of a file that isn't checked
-abbrev pub refusal_line : List ℕ → List ℕ → Line
-refusal_line path why = record { path = path; at = record { line = 1; column = 1 }; kind = Refused; message = codes "refused: " ++ why }
+-- the line of a file that isn't checked, with the place and the reason
+abbrev pub refusal_line : List ℕ → Pos → List ℕ → Line
+refusal_line path place why = record { path = path; at = place; kind = Refused; message = codes "refused: " ++ why }
+
+-- the first place of a file
+abbrev pub first_place : Pos
+first_place = record { line = 1; column = 1 }
 
 -- the line of a call that always fails, by the offset of its literal
 abbrev pub argument_line : List ℕ → List ℕ → ℕ → Line
 argument_line path text offset = record { path = path; at = pos_at text offset; kind = Argument; message = codes "argument 1 of math.abs always fails" }
 
--- the lines of a text by the offsets of the literals that fail in it, or a refusal where there are none since the text isn't of the built form
+-- the text of a file behind a byte order mark, which is dropped and isn't counted in places
+abbrev pub text_behind_mark : List ℕ → List ℕ
+text_behind_mark bytes = if starts_with nat_eq bytes (239 ∷ 187 ∷ 191 ∷ []) then drop 3 bytes else bytes
+
+-- the lines of a text by the offsets of the literals that fail in it, or a refusal where there are none since it isn't of the built form
 abbrev pub lines_at : List ℕ → List ℕ → Option (List ℕ) → List Line
-lines_at path text None = refusal_line path (codes "form not built") ∷ []
+lines_at path text None = refusal_line path first_place (codes "form not built") ∷ []
 lines_at path text (Some offsets) = map (argument_line path text) offsets
+
+-- the lines of a text by its tokens, or a refusal at its first fault
+abbrev pub lines_by : List ℕ → List ℕ → Result (List Tok) LexError → List Line
+lines_by path text (Err fault) = refusal_line path (pos_at text (place_of fault)) (reason_of fault) ∷ []
+lines_by path text (Ok tokens) = lines_at path text (faults_in text tokens)
+
+-- the lines of a text
+abbrev pub lines_of_text : List ℕ → List ℕ → List Line
+lines_of_text path text = lines_by path text (tokens_of text)
 
 -- whether the last part of a path is `init.luau` or `init.lua`
 abbrev pub is_init : List ℕ → Bool
@@ -62,8 +83,8 @@ refusal_of paths path text = if nat_lt MAX_TEXT (length text) then Some (codes "
 
 -- the lines of a file by why it is refused, else those of its text
 abbrev pub lines_unless : Option (List ℕ) → List ℕ → List ℕ → List Line
-lines_unless (Some why) path text = refusal_line path why ∷ []
-lines_unless None path text = lines_at path text (faults text)
+lines_unless (Some why) path bytes = refusal_line path first_place why ∷ []
+lines_unless None path bytes = lines_of_text path (text_behind_mark bytes)
 
 -- the lines of a file of a folder with these paths
 abbrev pub lines_of_file : List (List ℕ) → List ℕ → List ℕ → List Line

@@ -1,71 +1,53 @@
--- The built form: a text of calls of `math.abs`, each with one literal. Each part says what is left of a text behind it, or nothing where the text doesn't begin with it.
-use Rattle.std.specs.Prelude.{◌==◌, ◌-◌, ◌++◌, ℕ, suc, zero, Bool, true, false, List, [], ◌∷◌, Option, None, Some, length, drop, nat_eq, if◌then◌else◌, codes, option_map, option_and_then}
-use Rattle.std.specs.List.{prefix_len, starts_with}
-use Rattle.nonstrict_cli.specs.declared.form.Class.{Class}
-use Rattle.nonstrict_cli.specs.declared.form.Class.TheVariants.{Blank, InlineBlank, Digit, Plain}
-use Rattle.nonstrict_cli.specs.Class.{is_in}
+-- The built form: tokens that are calls of `math.abs`, each with one literal.
+use Rattle.std.specs.Prelude.{◌==◌, ◌||◌, ◌&&◌, ◌-◌, ◌++◌, ℕ, Bool, true, false, not, List, [], ◌∷◌, Option, None, Some, drop, take, if◌then◌else◌, codes, option_map}
+use Rattle.std.specs.Option.{option_and_then}
+use Rattle.std.specs.List.{list_all}
+use Rattle.std.specs.Str.{bytes_eq}
+use Rattle.luau_lex.specs.declared.token.Kind.{Kind}
+use Rattle.luau_lex.specs.declared.token.Kind.TheVariants.{Numeral, Quoted, Long, Word}
+use Rattle.luau_lex.specs.Tokens.{Tok}
 
--- what is left behind the bytes of a kind at the front
-abbrev pub past : Class → List ℕ → List ℕ
-past class text = drop (prefix_len (is_in class) text) text
+-- whether a token is spelled so
+abbrev pub is_spelled : List ℕ → Tok → Bool
+is_spelled bytes t = bytes_eq t.bytes bytes
 
--- what is left behind these bytes
-abbrev pub after : List ℕ → List ℕ → Option (List ℕ)
-after bytes text = if starts_with nat_eq text bytes then Some (drop (length bytes) text) else None
+-- whether a token begins on the line on which one before it ends: no line feed stands between
+abbrev pub is_on_line_of : List ℕ → Tok → Tok → Bool
+is_on_line_of text first second = list_all (λ b. not (b == 10)) (take (second.span.start - first.span.end) (drop first.span.end text))
 
--- the first of two ways to read on
-abbrev pub or_else : {A : Type 0} → Option A → Option A → Option A
-or_else None second = second
-or_else (Some a) second = Some a
+-- whether a literal of this kind and spelling fails as an argument of `math.abs`, as all but numbers do, if it is a literal
+abbrev pub literal_of : Kind → List ℕ → Option Bool
+literal_of Numeral bytes = Some false
+literal_of Quoted bytes = Some true
+literal_of Long bytes = Some true
+literal_of Word bytes = if bytes_eq bytes (codes "nil") || bytes_eq bytes (codes "true") || bytes_eq bytes (codes "false") then Some true else None
+literal_of other bytes = None
 
--- behind a number: one or more digits
-abbrev pub number : List ℕ → Option (List ℕ)
-number text = if prefix_len (is_in Digit) text == 0 then None else Some (past Digit text)
-
--- behind a quoted string
-abbrev pub quoted : List ℕ → Option (List ℕ)
-quoted text = option_and_then (λ inner. after (codes "\"") (past Plain inner)) (after (codes "\"") text)
-
--- behind one of the words `nil`, `true` and `false`
-abbrev pub word : List ℕ → Option (List ℕ)
-word text = or_else (after (codes "nil") text) (or_else (after (codes "true") text) (after (codes "false") text))
-
--- behind a literal that is no number
-abbrev pub other : List ℕ → Option (List ℕ)
-other text = or_else (word text) (quoted text)
-
--- a literal: whether it fails as an argument of `math.abs`, as all but numbers do, and what is left behind it
-abbrev pub literal : List ℕ → Option (Bool × List ℕ)
-literal text = or_else (option_map (λ rest. (false, rest)) (number text)) (option_map (λ rest. (true, rest)) (other text))
-
--- a call: whether its literal fails, the text from the literal on, and what is left behind the call and its blanks
+-- a call as tokens: `math`, `.`, `abs`, on the line where that ends `(`, then something and `)`
 pub record Call : Type 0 where
-  pub fails : Bool
-  pub from : List ℕ
-  pub rest : List ℕ
+  pub library : Tok
+  pub dot : Tok
+  pub name : Tok
+  pub paren : Tok
+  pub literal : Tok
+  pub close : Tok
 
--- behind the arguments of a call: a literal in parentheses
-abbrev pub arguments : List ℕ → Option Call
-arguments text = option_and_then (λ l. option_map (λ rest. record { fails = l.0; from = text; rest = past Blank rest }) (after (codes ")") (past Blank l.1))) (literal text)
+-- whether these tokens call `math.abs`, whatever the argument is
+abbrev pub is_call : List ℕ → Call → Bool
+is_call text c = is_spelled (codes "math") c.library && is_spelled (codes ".") c.dot && is_spelled (codes "abs") c.name && is_spelled (codes "(") c.paren && is_on_line_of text c.name c.paren && is_spelled (codes ")") c.close
 
--- behind the name of the function: `math`, `.` and `abs`, with blanks between
-abbrev pub callee : List ℕ → Option (List ℕ)
-callee text = option_and_then (λ dot. option_and_then (λ name. after (codes "abs") (past Blank name)) (after (codes ".") (past Blank dot))) (after (codes "math") text)
+-- where a literal at this offset fails, if it does
+abbrev pub offsets_at : ℕ → Bool → List ℕ
+offsets_at offset true = offset ∷ []
+offsets_at offset false = []
 
--- a call: the name of the function, on its last line a `(`, and the arguments
-abbrev pub call : List ℕ → Option Call
-call text = option_and_then (λ paren. option_and_then (λ inner. arguments (past Blank inner)) (after (codes "(") (past InlineBlank paren))) (callee text)
+-- where a call fails, nowhere or at its literal, if it is a call of `math.abs` with one literal
+abbrev pub faults_of : List ℕ → Call → Option (List ℕ)
+faults_of text c = if is_call text c then option_map (offsets_at c.literal.span.start) (literal_of c.literal.kind c.literal.bytes) else None
 
--- where a call fails in a text of this length: at its literal, if that fails
-abbrev pub fault_of : ℕ → Call → List ℕ
-fault_of len c = if c.fails then (len - length c.from) ∷ [] else []
-
--- the offsets of the literals that fail in a list of at most so many calls, in a text of this length
-abbrev pub faults_upto : ℕ → ℕ → List ℕ → Option (List ℕ)
-faults_upto len most [] = Some []
-faults_upto len zero (b ∷ bs) = None
-faults_upto len (suc most) (b ∷ bs) = option_and_then (λ c. option_map (λ later. fault_of len c ++ later) (faults_upto len most c.rest)) (call (b ∷ bs))
-
--- the offsets of the literals that fail in a text of the built form: blanks and then calls, of which there are no more than bytes
-abbrev pub faults : List ℕ → Option (List ℕ)
-faults text = faults_upto (length text) (length text) (past Blank text)
+-- the offsets of the literals that fail, if the tokens of a text are calls of `math.abs` with one literal each
+abbrev pub faults_in : List ℕ → List Tok → Option (List ℕ)
+faults_in text [] = Some []
+faults_in text (library ∷ dot ∷ name ∷ paren ∷ literal ∷ close ∷ rest) =
+    option_and_then (λ here. option_map (λ later. here ++ later) (faults_in text rest)) (faults_of text (record { library = library; dot = dot; name = name; paren = paren; literal = literal; close = close }))
+faults_in text other = None

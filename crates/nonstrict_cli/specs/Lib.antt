@@ -1,6 +1,4 @@
 pub mod Form
-pub mod Class
-pub mod Seen
 pub mod Command
 pub mod Status
 pub mod Folder
@@ -9,3 +7,5 @@ pub mod Stop
 pub mod Written
 pub mod Answer
 pub mod Run
+pub mod Seen
+pub mod Fault

@@ -1,17 +1,14 @@
--- What the reader's answers stand for.
-use Rattle.std.specs.Prelude.{ℕ, Bool, List, Option, option_map}
-use Rattle.nonstrict_cli.specs.declared.form.Literal.{Literal}
+-- What the reader's calls stand for.
+use Rattle.std.specs.Prelude.{List, ◌∷◌}
+use Rattle.luau_lex.specs.declared.token.Token.{Token}
+use Rattle.luau_lex.specs.Tokens.{seen_token}
 use Rattle.nonstrict_cli.specs.declared.form.Call as code
 use Rattle.nonstrict_cli.specs.Form.{Call}
 
--- a literal that was read, as plain data
-abbrev pub literal_seen : Option Literal → Option (Bool × List ℕ)
-literal_seen read = option_map (λ l. (l.fails, l.rest.now)) read
-
 -- a call that was read, as plain data
-abbrev pub seen_of : code.Call → Call
-seen_of c = record { fails = c.fails; from = c.from.now; rest = c.rest.now }
+abbrev pub seen_call : code.Call → Call
+seen_call c = record { library = seen_token c.library; dot = seen_token c.dot; name = seen_token c.name; paren = seen_token c.paren; literal = seen_token c.literal; close = seen_token c.close }
 
--- what reading a call gave, as plain data
-abbrev pub call_seen : Option code.Call → Option Call
-call_seen read = option_map seen_of read
+-- the tokens of a call, and then others
+abbrev pub call_then : code.Call → List Token → List Token
+call_then c rest = c.library ∷ c.dot ∷ c.name ∷ c.paren ∷ c.literal ∷ c.close ∷ rest

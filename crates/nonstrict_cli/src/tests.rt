@@ -61,6 +61,13 @@ fn one_file_gives_its_lines(rt: HostRuntime) -> Result<(), Fail> {
         ("math.abs(true)", "1:10", 1),
         ("math.abs(false)", "1:10", 1),
         ("math.abs(\"\u{e9}\u{1}'\")", "1:10", 1),
+        ("math.abs(\"a\\n\")", "1:10", 1),
+        ("math.abs('')", "1:10", 1),
+        ("math.abs(0x1F)math.abs(1e5)", "", 0),
+        ("math.abs([[x]]) -- y", "1:10", 1),
+        ("\u{feff}math.abs(\"hi\")", "1:10", 1),
+        ("#!/usr/bin/luau\nmath.abs(\"hi\")", "2:10", 1),
+        ("math --[[\n]] . abs --[[]] ( [==[\n]==] )", "2:18", 1),
         (
             " \t\n\r\u{b}\u{c}math \n.\r\n abs\t\u{b}\u{c}\r ( \n\"\" \n)\n",
             "6:2",
@@ -85,39 +92,56 @@ fn one_file_gives_its_lines(rt: HostRuntime) -> Result<(), Fail> {
 #[test]
 fn other_texts_are_refused(rt: HostRuntime) -> Result<(), Fail> {
     let alloc = rt.alloc();
-    for text in [
-        "local x",
-        "math.abs\n(1)",
-        "math.abs(\"a\\n\")",
-        "math.abs(\"a\nb\")",
-        "math.abs(\"a\rb\")",
-        "math.abs(1",
-        "math.abs()",
-        "math.abs(nilx)",
-        "math.abs(1x)",
-        "math.abs(-1)",
-        "math.abs(1);",
-        "math.ab(1)",
-        "math.abs(1) x",
-        "Math.abs(1)",
+    for (text, place, why) in [
+        ("local x", "1:1", "form not built"),
+        ("math.abs\n(1)", "1:1", "form not built"),
+        ("math.abs --[[\n]] (1)", "1:1", "form not built"),
+        ("math.abs(1", "1:1", "form not built"),
+        ("math.abs()", "1:1", "form not built"),
+        ("math.abs(nilx)", "1:1", "form not built"),
+        ("math.abs(-1)", "1:1", "form not built"),
+        ("math.abs(1);", "1:1", "form not built"),
+        ("math.abs\"hi\"", "1:1", "form not built"),
+        ("math.abs(`a`)", "1:1", "form not built"),
+        ("math.ab(1)", "1:1", "form not built"),
+        ("math.abs(1) x", "1:1", "form not built"),
+        ("Math.abs(1)", "1:1", "form not built"),
+        ("math.abs(\"x", "1:10", "unfinished string"),
+        ("math.abs(\"a\nb\")", "1:10", "unfinished string"),
+        ("local s = [[a", "1:11", "unfinished string"),
+        ("\n --[[", "2:2", "unfinished comment"),
+        ("math.abs(\"\\q\")", "1:11", "bad escape"),
+        ("math.abs(1x)", "1:10", "bad numeral"),
+        ("\u{feff}\u{feff}", "1:1", "stray byte"),
+        ("`{{`", "1:2", "interpolation brace"),
     ] {
-        let root = root(alloc, &[("a.luau", text.as_bytes())])?;
+        let files = root(alloc, &[("a.luau", text.as_bytes())])?;
         let mut sink = any_sink(alloc)?;
-        let status = run(alloc, "d;", root, &[], &mut sink)?;
+        let status = run(alloc, "d;", files, &[], &mut sink)?;
         assert_eq!(rt; status, Status::Refused, "of {text:?}");
-        assert_eq!(rt; sink.written(), NOT_BUILT.as_bytes(), "of {text:?}");
+        let line = format!(in alloc; "a.luau:{place}: refused: {why}\n")?;
+        assert_eq!(rt; sink.written(), line.as_bytes(), "of {text:?}");
     }
+    Ok(())
+}
+
+#[test]
+fn a_part_of_a_call_is_refused(rt: HostRuntime) -> Result<(), Fail> {
+    let alloc = rt.alloc();
     let whole = b"math . abs ( \"hi\" )".as_slice();
+    let unfinished = b"a.luau:1:14: refused: unfinished string\n".as_slice();
     for len in 1..whole.len() {
-        let root = root(alloc, &[("a.luau", &whole[..len])])?;
+        let files = root(alloc, &[("a.luau", &whole[..len])])?;
         let mut sink = any_sink(alloc)?;
-        let status = run(alloc, "d;", root, &[], &mut sink)?;
+        let status = run(alloc, "d;", files, &[], &mut sink)?;
         assert_eq!(rt; status, Status::Refused, "of the first {len} bytes");
-        assert_eq!(rt;
-            sink.written(),
-            NOT_BUILT.as_bytes(),
-            "of the first {len} bytes"
-        );
+        let in_string = 14 <= len && len <= 16;
+        let expected = if in_string {
+            unfinished
+        } else {
+            NOT_BUILT.as_bytes()
+        };
+        assert_eq!(rt; sink.written(), expected, "of the first {len} bytes");
     }
     Ok(())
 }

@@ -1,11 +1,12 @@
-use Rattle.std.proofs.Common.{◌≤◌, length, All}
-use Rattle.nonstrict_cli.proofs.Faults.{GoesOn}
+use Rattle.std.proofs.Common.{◌≡◌, ◌-◌, ◌≤◌, ◌++◌, drop, length, map, option_map}
+use Rattle.luau_lex.specs.Tokens.{seen_token}
+use Rattle.nonstrict_cli.specs.Form.{faults_in}
 use Rattle.nonstrict_cli.proofs.form.read_faults.Given as goal
 
--- what was found so far and what is found in the rest are all, and no offset is past the end
-abbrev pub invariant-loop-rest : goal.invariant-loop-rest
-invariant-loop-rest l = (length l.rest ≤ length l.text) × GoesOn l.text l.found.items l.rest × All (λ offset. offset ≤ length l.text) l.found.items
+-- what was found so far and what is found in the rest are all
+abbrev pub invariant-loop-at : goal.invariant-loop-at
+invariant-loop-at l = (l.at ≤ length l.tokens) × (faults_in l.text (map seen_token l.tokens) ≡ option_map (λ later. l.found.items ++ later) (faults_in l.text (map seen_token (drop l.at l.tokens))))
 
--- each call takes some bytes
-abbrev pub decreases-loop-rest : goal.decreases-loop-rest
-decreases-loop-rest l = length l.rest
+-- each call takes six tokens
+abbrev pub decreases-loop-at : goal.decreases-loop-at
+decreases-loop-at l = length l.tokens - l.at
