@@ -67,7 +67,7 @@ fn one_file_gives_its_lines(rt: HostRuntime) -> Result<(), Fail> {
         ("math.abs([[x]]) -- y", "1:10", 1),
         ("\u{feff}math.abs(\"hi\")", "1:10", 1),
         ("#!/usr/bin/luau\nmath.abs(\"hi\")", "2:10", 1),
-        ("math --[[\n]] . abs --[[]] ( [==[\n]==] )", "2:18", 1),
+        ("math --[[\n]] . abs --[[]] ( [==[\n]==] )", "2:19", 1),
         (
             " \t\n\r\u{b}\u{c}math \n.\r\n abs\t\u{b}\u{c}\r ( \n\"\" \n)\n",
             "6:2",
@@ -110,7 +110,7 @@ fn other_texts_are_refused(rt: HostRuntime) -> Result<(), Fail> {
         ("math.abs(\"a\nb\")", "1:10", "unfinished string"),
         ("local s = [[a", "1:11", "unfinished string"),
         ("\n --[[", "2:2", "unfinished comment"),
-        ("math.abs(\"\\q\")", "1:11", "bad escape"),
+        ("math.abs(\"\\xZ1\")", "1:11", "bad escape"),
         ("math.abs(1x)", "1:10", "bad numeral"),
         ("\u{feff}\u{feff}", "1:1", "stray byte"),
         ("`{{`", "1:2", "interpolation brace"),
