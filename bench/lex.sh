@@ -1,0 +1,38 @@
+#!/usr/bin/env bash
+# Times how the built program cuts 64 MiB of mixed tokens, in files of 1 MiB, beside `wc -w` on the same files, and
+# prints the ratio. Run `make build` first; nothing depends on what this prints.
+set -eu
+cd "$(dirname "$0")/.."
+program=$PWD/bin/luau-nonstrict
+[ -x "$program" ] || { echo "no bin/luau-nonstrict: run 'make build' first" >&2; exit 1; }
+work=$(mktemp -d)
+trap 'rm -rf "$work"' EXIT
+
+# The least of five times of a command, in seconds; what it prints is dropped.
+seconds() {
+    local best='' start end took
+    for _ in 1 2 3 4 5; do
+        start=$(date +%s%N)
+        "$@" >/dev/null 2>&1 || true
+        end=$(date +%s%N)
+        took=$((end - start))
+        if [ -z "$best" ] || [ "$took" -lt "$best" ]; then best=$took; fi
+    done
+    awk -v ns="$best" 'BEGIN { printf "%.3f", ns / 1e9 }'
+}
+
+# Lines of names, words, numerals, strings of each form, signs and comments, up to 1,048,576 bytes.
+awk 'BEGIN {
+    lines[0] = "local total, count = 0x1F_ff + 1e-3, #names -- a comment\n"
+    lines[1] = "if value ~= nil and value >= 12.5 then total += value // 2 end\n"
+    lines[2] = "local text = \"one\\ttwo\\u{1F600}\" .. [==[three]==] .. `four {five + 6} seven`\n"
+    lines[3] = "--[[ a longer\ncomment ]] return function(a: number, ...): string return f(a, ...) end\n"
+    size = 0
+    for (i = 0; size + length(lines[i % 4]) <= 1048576; i++) { printf "%s", lines[i % 4]; size += length(lines[i % 4]) }
+}' >"$work/mixed"
+mkdir "$work/folder"
+for i in $(seq -w 1 64); do cp "$work/mixed" "$work/folder/m$i.luau"; done
+
+ours=$(seconds "$program" "$work/folder")
+theirs=$(seconds env LC_ALL=C wc -w "$work"/folder/*.luau)
+awk -v a="$ours" -v b="$theirs" 'BEGIN { printf "64 MiB of tokens: %ss, wc -w %ss, ratio %.1f\n", a, b, a / b }'
