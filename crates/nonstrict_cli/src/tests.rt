@@ -70,7 +70,7 @@ fn one_file_gives_its_lines(rt: HostRuntime) -> Result<(), Fail> {
         ("math --[[\n]] . abs --[[]] ( [==[\n]==] )", "2:19", 1),
         (
             " \t\n\r\u{b}\u{c}math \n.\r\n abs\t\u{b}\u{c}\r ( \n\"\" \n)\n",
-            "6:2",
+            "5:1",
             1,
         ),
     ] {
