@@ -1,0 +1,4 @@
+pub mod Parts
+pub mod CallRuns
+pub mod ReportPlaces
+pub mod RunOf

@@ -1,0 +1,31 @@
+-- Modules of the built form without regard to where they stand in a text.
+use Rattle.std.specs.Prelude.{ℕ, List, [], ◌∷◌, map}
+use Rattle.luau_tree.specs.declared.names.Place.{Place}
+use Rattle.luau_run.specs.Program.{Program}
+use Rattle.luau_run.specs.Machine.{Event, Answer}
+use Rattle.luau_run.specs.Run.{run, end_of}
+use Rattle.luau_run.specs.Examples.{abs, somewhere, Outcome, outcome}
+use Rattle.rules_certain.specs.Literal.{Literal}
+use Rattle.rules_certain.specs.Calls.{Written, program_of}
+use Rattle.rules_certain.specs.Reports.{reports_of}
+
+-- a call with a literal, wherever it stands
+abbrev pub written : Literal → Written
+written literal = record { literal = literal; call = somewhere; callee = somewhere; library = somewhere; argument = somewhere }
+
+-- the module of some literals' calls, as the only one of a program
+abbrev pub modules_for : List Literal → List (List Written)
+modules_for literals = map written literals ∷ []
+
+-- the program of that module, where `math.abs` is the only builtin
+abbrev pub program_for : List Literal → Program
+program_for literals = program_of (abs ∷ []) (modules_for literals)
+
+-- the reports of that program
+abbrev pub reports_for : List Literal → List (ℕ × Place)
+reports_for literals = reports_of (modules_for literals)
+
+-- how the run of that program ends, and what it logs
+abbrev pub outcome_and_trace : List Literal → (steps : ℕ) → List Answer → Outcome × List Event
+outcome_and_trace literals steps tape =
+    (outcome (run (program_for literals) 0 steps tape), (end_of (run (program_for literals) 0 steps tape)).trace)

@@ -1,0 +1,4 @@
+pub mod Literal
+pub mod Calls
+pub mod Reports
+pub mod Examples

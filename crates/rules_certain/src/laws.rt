@@ -1,0 +1,20 @@
+//! What is reported of modules of the built form, and that it is certain. Each law is the contract of a function that
+//! does nothing.
+
+ghost use Rattle.std.specs.Prelude.{◌≡◌, List, Some, codes};
+ghost use Rattle.luau_run.specs.Program.{Declared, declaration};
+ghost use Rattle.luau_run.specs.Certain.{Certain};
+ghost use Rattle.luau_run.specs.Examples.{abs};
+ghost use Rattle.rules_certain.specs.Literal.{Literal};
+ghost use Rattle.rules_certain.specs.Calls.{Written, program_of};
+ghost use Rattle.rules_certain.specs.Reports.{reports_of};
+ghost use Rattle.rules_certain.specs.Examples.{program_for, reports_for};
+
+/// Over whatever builtins of which `math.abs` is declared as checked, with a number as its one parameter: in no run of
+/// any of the modules is an activation left that reached a report, which is a literal that isn't a number.
+#[tactic(auto, using(crate::proofs::RunOf::certain, crate::proofs::RunOf::one_is_certain))]
+pub fn reports_certain()
+    ensures modules { (builtins : List Declared) (modules : List (List Written)) → declaration builtins (codes "math.abs") ≡ Some abs.signature
+        → Certain (program_of builtins modules) (reports_of modules) }
+    ensures one_module { (literals : List Literal) → Certain (program_for literals) (reports_for literals) }
+{}
