@@ -2,3 +2,4 @@ pub mod Parts
 pub mod CallRuns
 pub mod ReportPlaces
 pub mod RunOf
+pub mod ReportLaws

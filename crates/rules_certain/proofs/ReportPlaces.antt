@@ -13,10 +13,10 @@ contains_cons : {X : Type 0} (y : X) (ys : List X) (x : X) → Contains (y ∷ y
 contains_cons y ys x (zero, l, e) = inl e
 contains_cons y ys x (suc k, l, e) = inr (k, omega (arith, l), e)
 
-further : {X : Type 0} (y : X) (ys : List X) (x : X) → Contains ys x → Contains (y ∷ ys) x
+pub further : {X : Type 0} (y : X) (ys : List X) (x : X) → Contains ys x → Contains (y ∷ ys) x
 further y ys x c = (suc c.0, omega (arith, c.1), c.2)
 
-contains_append : {X : Type 0} (xs ys : List X) (x : X) → Contains (xs ++ ys) x → Contains xs x ⊎ Contains ys x
+pub contains_append : {X : Type 0} (xs ys : List X) (x : X) → Contains (xs ++ ys) x → Contains xs x ⊎ Contains ys x
 contains_append [] ys x c = inr c
 contains_append (z ∷ xs) ys x c = by_head (contains_cons z (xs ++ ys) x c) (λ k. contains_append xs ys x k)
   where
@@ -40,7 +40,7 @@ later_place : (m at id n : ℕ) → suc (suc (suc (suc n))) ≤ id → ◌≡◌
 later_place m at id n l e = absurd (omega (arith, (same_module m at id n e).1))
 
 -- a report is that of the first call, whose literal is no number, or of a later one
-first_or_later : (at n : ℕ) (w : Written) (calls : List Written) (x : ℕ × Place) → Contains (reports_in at n (w ∷ calls)) x
+pub first_or_later : (at n : ℕ) (w : Written) (calls : List Written) (x : ℕ × Place) → Contains (reports_in at n (w ∷ calls)) x
     → ((is_number w.literal ≡ false) × ((at, argument_of n) ≡ x)) ⊎ Contains (reports_in at (after_call n) calls) x
 first_or_later at n w calls x = by_test (is_number w.literal)
   where

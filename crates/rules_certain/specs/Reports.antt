@@ -1,5 +1,5 @@
 -- What is reported in modules of the built form: each literal that is no number.
-use Rattle.std.specs.Prelude.{ℕ, suc, if◌then◌else◌, List, [], ◌∷◌, ◌++◌}
+use Rattle.std.specs.Prelude.{◌≡◌, ℕ, suc, ◌*◌, false, if◌then◌else◌, List, [], ◌∷◌, ◌++◌, Some, slice_get}
 use Rattle.luau_tree.specs.declared.names.Place.{Place}
 use Rattle.luau_tree.specs.declared.names.Place.TheVariants.{Expr as ExprPlace}
 use Rattle.rules_certain.specs.Literal.{is_number}
@@ -24,3 +24,8 @@ reports_from module_at (calls ∷ modules) = reports_in module_at 0 calls ++ rep
 -- the reports of a program of such modules
 abbrev pub reports_of : List (List Written) → List (ℕ × Place)
 reports_of modules = reports_from 0 modules
+
+-- a place in a module that is the literal of one of its calls, and no number
+abbrev pub IsWrongLiteral : List (List Written) → (report : ℕ × Place) → Type 0
+IsWrongLiteral modules report = (calls : List Written) × (k : ℕ) × (w : Written)
+    × (slice_get modules report.0 ≡ Some calls) × (slice_get calls k ≡ Some w) × (is_number w.literal ≡ false) × (report.1 ≡ argument_of (k * 4))

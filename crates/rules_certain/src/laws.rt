@@ -1,13 +1,15 @@
 //! What is reported of modules of the built form, and that it is certain. Each law is the contract of a function that
 //! does nothing.
 
-ghost use Rattle.std.specs.Prelude.{◌≡◌, List, Some, codes};
+ghost use Rattle.std.specs.Prelude.{◌≡◌, ◌↔◌, ℕ, List, Some, codes};
+ghost use Rattle.std.specs.List.{Contains};
+ghost use Rattle.luau_tree.specs.declared.names.Place.{Place};
 ghost use Rattle.luau_run.specs.Program.{Declared, declaration};
 ghost use Rattle.luau_run.specs.Certain.{Certain};
 ghost use Rattle.luau_run.specs.Examples.{abs};
 ghost use Rattle.rules_certain.specs.Literal.{Literal};
 ghost use Rattle.rules_certain.specs.Calls.{Written, program_of};
-ghost use Rattle.rules_certain.specs.Reports.{reports_of};
+ghost use Rattle.rules_certain.specs.Reports.{reports_of, IsWrongLiteral};
 ghost use Rattle.rules_certain.specs.Examples.{program_for, reports_for};
 
 /// Over whatever builtins of which `math.abs` is declared as checked, with a number as its one parameter: in no run of
@@ -17,4 +19,10 @@ pub fn reports_certain()
     ensures modules { (builtins : List Declared) (modules : List (List Written)) → declaration builtins (codes "math.abs") ≡ Some abs.signature
         → Certain (program_of builtins modules) (reports_of modules) }
     ensures one_module { (literals : List Literal) → Certain (program_for literals) (reports_for literals) }
+{}
+
+/// What is reported are exactly the literals that aren't numbers, each at its own place.
+#[tactic(auto, using(crate::proofs::ReportLaws::exact))]
+pub fn reports_are_exact()
+    ensures { (modules : List (List Written)) (report : ℕ × Place) → Contains (reports_of modules) report ↔ IsWrongLiteral modules report }
 {}
