@@ -4,7 +4,6 @@ use Rattle.std.specs.Bool.{⊤}
 use Rattle.luau_values.specs.Value.{Value, Builtin}
 use Rattle.luau_values.specs.Heap.{is_frozen}
 use Rattle.luau_tree.specs.declared.names.Place.{Place}
-use Rattle.luau_tree.specs.declared.names.Place.TheVariants.{Expr as ExprPlace}
 use Rattle.luau_tree.specs.declared.position.Span.{Span}
 use Rattle.luau_tree.specs.Tree.{Expr, the_expr, no_exprs, more_exprs, ExprKind, Call, Index, NameExpr}
 use Rattle.luau_run.specs.Program.{Signature, declaration, may_give, Use, UseBuiltin, Program}
@@ -18,7 +17,7 @@ use Rattle.luau_run.specs.Run.{layer_of}
 use Rattle.luau_run.specs.Examples.{abs}
 use Rattle.rules_certain.specs.Literal.{Literal, NilLiteral, TruthLiteral, NumberLiteral, StrLiteral, is_number, kind_of, value_of}
 use Rattle.rules_certain.specs.Calls.{Written, stat_of, after_call, block_of}
-use Rattle.rules_certain.specs.Reports.{argument_of}
+use Rattle.rules_certain.specs.Reports.{place, argument_of}
 use Rattle.rules_certain.proofs.Parts.{NoLeave, Clear, clear_no_leave, reach_no_leave, reach_clear, Post, post_then, post_step, Said, post_ask}
 
 -- an act that calls nothing, or an end
@@ -46,10 +45,6 @@ silent_move program store from (Does Make) = tt
 silent_move program store from (Does (Calls callee args)) = tt
 silent_move program store from (Does (Catches callee args)) = tt
 silent_move program store from (Done results) = said_if IsSilent _ (Ends (Some results)) tt
-
--- the place of an expression
-abbrev pub place : ℕ → Place
-place id = ExprPlace (record { 0 = id })
 
 module _ (program : Program) (reports : List (ℕ × Place)) where
   -- what is given comes with a clear trace

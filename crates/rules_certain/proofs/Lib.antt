@@ -3,3 +3,4 @@ pub mod CallRuns
 pub mod ReportPlaces
 pub mod RunOf
 pub mod ReportLaws
+pub mod NumberRuns

@@ -6,8 +6,7 @@ use Rattle.luau_tree.specs.declared.names.Place.TheVariants.{Expr as ExprPlace}
 use Rattle.luau_run.specs.Program.{ReadModule}
 use Rattle.rules_certain.specs.Literal.{is_number}
 use Rattle.rules_certain.specs.Calls.{Written, after_call, module_of}
-use Rattle.rules_certain.specs.Reports.{argument_of, reports_in, reports_from}
-use Rattle.rules_certain.proofs.CallRuns.{place}
+use Rattle.rules_certain.specs.Reports.{place, argument_of, reports_in, reports_from}
 
 contains_cons : {X : Type 0} (y : X) (ys : List X) (x : X) → Contains (y ∷ ys) x → (y ≡ x) ⊎ Contains ys x
 contains_cons y ys x (zero, l, e) = inl e

@@ -10,10 +10,10 @@ use Rattle.luau_run.specs.Certain.{StaysAt, Certain}
 use Rattle.luau_run.specs.Examples.{abs}
 use Rattle.rules_certain.specs.Literal.{Literal, is_number}
 use Rattle.rules_certain.specs.Calls.{Written, after_call, block_of, use_in, module_of, program_of}
-use Rattle.rules_certain.specs.Reports.{argument_of, reports_in, reports_of}
+use Rattle.rules_certain.specs.Reports.{place, argument_of, reports_in, reports_of}
 use Rattle.rules_certain.specs.Examples.{modules_for, program_for, reports_for}
 use Rattle.rules_certain.proofs.Parts.{Clear, no_leave_stays, clear_left_stays, Post}
-use Rattle.rules_certain.proofs.CallRuns.{place, AllFacts, block_runs}
+use Rattle.rules_certain.proofs.CallRuns.{AllFacts, block_runs}
 use Rattle.rules_certain.proofs.ReportPlaces.{reports_past, past_first, Found, found}
 
 module _ (program : Program) (declared : declaration program.builtins (codes "math.abs") ≡ Some abs.signature) (reports : List (ℕ × Place)) (at : ℕ) (whole : List Written) where

@@ -1,5 +1,5 @@
 -- Modules of the built form without regard to where they stand in a text.
-use Rattle.std.specs.Prelude.{ℕ, List, [], ◌∷◌, map}
+use Rattle.std.specs.Prelude.{ℕ, ◌*◌, List, [], ◌∷◌, map}
 use Rattle.luau_tree.specs.declared.names.Place.{Place}
 use Rattle.luau_run.specs.Program.{Program}
 use Rattle.luau_run.specs.Machine.{Event, Answer}
@@ -7,7 +7,7 @@ use Rattle.luau_run.specs.Run.{run, end_of}
 use Rattle.luau_run.specs.Examples.{abs, somewhere, Outcome, outcome}
 use Rattle.rules_certain.specs.Literal.{Literal}
 use Rattle.rules_certain.specs.Calls.{Written, program_of}
-use Rattle.rules_certain.specs.Reports.{reports_of}
+use Rattle.rules_certain.specs.Reports.{argument_of, reports_of}
 
 -- a call with a literal, wherever it stands
 abbrev pub written : Literal → Written
@@ -29,3 +29,7 @@ reports_for literals = reports_of (modules_for literals)
 abbrev pub outcome_and_trace : List Literal → (steps : ℕ) → List Answer → Outcome × List Event
 outcome_and_trace literals steps tape =
     (outcome (run (program_for literals) 0 steps tape), (end_of (run (program_for literals) 0 steps tape)).trace)
+
+-- a report at the literal of one of that program's calls, counted from 0
+abbrev pub report_at : (position : ℕ) → List (ℕ × Place)
+report_at position = (0, argument_of (position * 4)) ∷ []

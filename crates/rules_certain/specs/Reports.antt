@@ -5,9 +5,13 @@ use Rattle.luau_tree.specs.declared.names.Place.TheVariants.{Expr as ExprPlace}
 use Rattle.rules_certain.specs.Literal.{is_number}
 use Rattle.rules_certain.specs.Calls.{Written, after_call}
 
+-- the place of the expression with a number
+abbrev pub place : ℕ → Place
+place id = ExprPlace (record { 0 = id })
+
 -- the place of the literal of a call with numbers from `first` on
 abbrev pub argument_of : (first : ℕ) → Place
-argument_of first = ExprPlace (record { 0 = suc (suc (suc first)) })
+argument_of first = place (suc (suc (suc first)))
 
 -- the reports in a module: the places of the literals that aren't numbers, of calls with numbers from `first` on
 abbrev pub reports_in : (module_at first : ℕ) → List Written → List (ℕ × Place)

@@ -1,16 +1,16 @@
 //! What is reported of modules of the built form, and that it is certain. Each law is the contract of a function that
 //! does nothing.
 
-ghost use Rattle.std.specs.Prelude.{◌≡◌, ◌↔◌, ℕ, List, Some, codes};
+ghost use Rattle.std.specs.Prelude.{◌≡◌, ◌↔◌, ◌<◌, ℕ, List, length, map, Some, codes};
 ghost use Rattle.std.specs.List.{Contains};
 ghost use Rattle.luau_tree.specs.declared.names.Place.{Place};
 ghost use Rattle.luau_run.specs.Program.{Declared, declaration};
 ghost use Rattle.luau_run.specs.Certain.{Certain};
 ghost use Rattle.luau_run.specs.Examples.{abs};
-ghost use Rattle.rules_certain.specs.Literal.{Literal};
+ghost use Rattle.rules_certain.specs.Literal.{Literal, NumberLiteral};
 ghost use Rattle.rules_certain.specs.Calls.{Written, program_of};
 ghost use Rattle.rules_certain.specs.Reports.{reports_of, IsWrongLiteral};
-ghost use Rattle.rules_certain.specs.Examples.{program_for, reports_for};
+ghost use Rattle.rules_certain.specs.Examples.{program_for, reports_for, report_at};
 
 /// Over whatever builtins of which `math.abs` is declared as checked, with a number as its one parameter: in no run of
 /// any of the modules is an activation left that reached a report, which is a literal that isn't a number.
@@ -22,7 +22,12 @@ pub fn reports_certain()
 {}
 
 /// What is reported are exactly the literals that aren't numbers, each at its own place.
-#[tactic(auto, using(crate::proofs::ReportLaws::exact))]
 pub fn reports_are_exact()
     ensures { (modules : List (List Written)) (report : ℕ × Place) → Contains (reports_of modules) report ↔ IsWrongLiteral modules report }
+{}
+
+/// Where each literal is a number, a report at any one of them isn't certain: some run is left after it.
+pub fn report_at_number_is_not_certain()
+    ensures { (texts : List (List ℕ)) (position : ℕ) → position < length texts
+        → Certain (program_for (map NumberLiteral texts)) (report_at position) → ⊥ }
 {}
