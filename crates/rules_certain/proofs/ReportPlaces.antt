@@ -1,11 +1,11 @@
 -- Which places are reported, and what the names stand for.
-use Rattle.std.proofs.Common.{◌≡◌, ℕ, zero, suc, ◌+◌, ◌≤◌, Bool, true, false, if◌then◌else◌, ◌⊎◌, inl, inr, List, [], ◌∷◌, ◌++◌, map, Option, Some, None, slice_get, refl, sym, ap, subst, arith, Contains}
+use Rattle.std.proofs.Common.{◌≡◌, ℕ, zero, suc, ◌+◌, ◌≤◌, Bool, true, false, if◌then◌else◌, ◌⊎◌, inl, inr, List, [], ◌∷◌, ◌++◌, Option, Some, None, slice_get, refl, sym, ap, subst, arith, Contains}
 use Rattle.std.specs.Bool.{⊤}
 use Rattle.luau_tree.specs.declared.names.Place.{Place}
 use Rattle.luau_tree.specs.declared.names.Place.TheVariants.{Expr as ExprPlace}
 use Rattle.luau_run.specs.Program.{ReadModule}
 use Rattle.rules_certain.specs.Literal.{is_number}
-use Rattle.rules_certain.specs.Calls.{Written, after_call, module_of}
+use Rattle.rules_certain.specs.Calls.{Written, after_call, ReadsAs, AllReadAs}
 use Rattle.rules_certain.specs.Reports.{place, argument_of, reports_in, reports_from}
 
 contains_cons : {X : Type 0} (y : X) (ys : List X) (x : X) → Contains (y ∷ ys) x → (y ≡ x) ⊎ Contains ys x
@@ -85,28 +85,32 @@ from_past at m id (calls ∷ modules) c =
     by_case (inl k) again = omega (arith, (reports_past at m id 0 calls k).0)
     by_case (inr k) again = omega (arith, again k)
 
--- what is known of the module at a position: it is that of some calls, whose reports are all that there are in it
+-- what is known of the module at a position: it is read as some calls, whose reports are all that there are in it
 abbrev pub Found : (reports : List (ℕ × Place)) → (at : ℕ) → Option ReadModule → Type 0
 Found reports at None = ⊤
-Found reports at (Some reading) = (calls : List Written) × (module_of calls ≡ reading) × ((id : ℕ) → Contains reports (at, place id) → Contains (reports_in at 0 calls) (at, place id))
+Found reports at (Some reading) = (calls : List Written) × ReadsAs calls reading × ((id : ℕ) → Contains reports (at, place id) → Contains (reports_in at 0 calls) (at, place id))
 
 found_later : (reports more : List (ℕ × Place)) (at : ℕ) (o : Option ReadModule) → ((id : ℕ) → Contains more (at, place id) → Contains reports (at, place id))
     → Found reports at o → Found more at o
 found_later reports more at None f h = tt
 found_later reports more at (Some reading) f h = (h.0, h.1, λ id c. h.2 id (f id c))
 
-pub found : (at : ℕ) (modules : List (List Written)) (k : ℕ) → Found (reports_from at modules) (at + k) (slice_get (map module_of modules) k)
-found at [] k = tt
-found at (calls ∷ modules) zero = (calls, refl, λ id c. by_case id (contains_append (reports_in at 0 calls) (reports_from (suc at) modules) (at + zero, place id) c))
+pub found : (at : ℕ) (modules : List (List Written)) (readings : List ReadModule) (k : ℕ) → AllReadAs modules readings
+    → Found (reports_from at modules) (at + k) (slice_get readings k)
+found at [] [] k h = tt
+found at [] (reading ∷ readings) k h = absurd h
+found at (calls ∷ modules) [] k h = absurd h
+found at (calls ∷ modules) (reading ∷ readings) zero h =
+    (calls, h.0, λ id c. by_case id (contains_append (reports_in at 0 calls) (reports_from (suc at) modules) (at + zero, place id) c))
   where
     by_case : (id : ℕ) → Contains (reports_in at 0 calls) (at + zero, place id) ⊎ Contains (reports_from (suc at) modules) (at + zero, place id)
         → Contains (reports_in (at + zero) 0 calls) (at + zero, place id)
     by_case id (inl k) = subst (λ (m : ℕ). Contains (reports_in m 0 calls) (at + zero, place id)) (omega arith) k
     by_case id (inr k) = absurd (omega (arith, from_past (suc at) (at + zero) id modules k))
-found at (calls ∷ modules) (suc k) =
-    found_later (reports_from (suc at) modules) (reports_from at (calls ∷ modules)) (at + suc k) (slice_get (map module_of modules) k)
+found at (calls ∷ modules) (reading ∷ readings) (suc k) h =
+    found_later (reports_from (suc at) modules) (reports_from at (calls ∷ modules)) (at + suc k) (slice_get readings k)
     (λ id c. by_case id (contains_append (reports_in at 0 calls) (reports_from (suc at) modules) (at + suc k, place id) c))
-    (subst (λ (m : ℕ). Found (reports_from (suc at) modules) m (slice_get (map module_of modules) k)) (omega arith) (found (suc at) modules k))
+    (subst (λ (m : ℕ). Found (reports_from (suc at) modules) m (slice_get readings k)) (omega arith) (found (suc at) modules readings k h.1))
   where
     by_case : (id : ℕ) → Contains (reports_in at 0 calls) (at + suc k, place id) ⊎ Contains (reports_from (suc at) modules) (at + suc k, place id)
         → Contains (reports_from (suc at) modules) (at + suc k, place id)

@@ -1,7 +1,7 @@
 -- Modules of the built form: a list of statements, each a call of `math.abs` with one literal. The expressions of such a
 -- statement have four numbers in a row, in the order of the text: the call, the callee `math.abs`, its base `math`, and
 -- the literal.
-use Rattle.std.specs.Prelude.{ℕ, zero, suc, true, List, [], ◌∷◌, map, Option, Some, None, codes}
+use Rattle.std.specs.Prelude.{◌≡◌, ⊤, ℕ, zero, suc, true, List, [], ◌∷◌, map, Option, Some, None, codes}
 use Rattle.luau_tree.specs.declared.position.Span.{Span}
 use Rattle.luau_tree.specs.Tree.{Block, no_stats, more_stats, Stat, the_stat, CallStat, the_expr, no_exprs, more_exprs, Call, Index, NameExpr}
 use Rattle.luau_run.specs.Program.{Declared, Use, UseBuiltin, UseLibrary, ReadModule, Program}
@@ -39,6 +39,19 @@ use_in (w ∷ calls) (suc zero) = Some (UseBuiltin (codes "math.abs"))
 use_in (w ∷ calls) (suc (suc zero)) = Some UseLibrary
 use_in (w ∷ calls) (suc (suc (suc zero))) = None
 use_in (w ∷ calls) (suc (suc (suc (suc id)))) = use_in calls id
+
+-- a module is read as some calls: its statements are theirs, its names stand for the same, and nothing is a static
+-- require; its home is whatever it is, and so is what it says of locals and function literals, of which there are none
+pub record ReadsAs (calls : List Written) (reading : ReadModule) : Type 0 where
+  pub statements : reading.block ≡ block_of 0 calls
+  pub names : (id : ℕ) → reading.use_of id ≡ use_in calls id
+  pub no_require : (id : ℕ) → reading.required id ≡ None
+
+-- each module of a list is read as the calls at the same position
+abbrev pub AllReadAs : List (List Written) → List ReadModule → Type 0
+AllReadAs [] [] = ⊤
+AllReadAs (calls ∷ modules) (reading ∷ readings) = ReadsAs calls reading × AllReadAs modules readings
+AllReadAs _ _ = ⊥
 
 -- the module of some calls; it declares no local, has no function literal and requires nothing
 abbrev pub module_of : List Written → ReadModule

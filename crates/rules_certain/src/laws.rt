@@ -4,18 +4,20 @@
 ghost use Rattle.std.specs.Prelude.{◌≡◌, ◌↔◌, ◌<◌, ℕ, List, length, map, Some, codes};
 ghost use Rattle.std.specs.List.{Contains};
 ghost use Rattle.luau_tree.specs.declared.names.Place.{Place};
-ghost use Rattle.luau_run.specs.Program.{Declared, declaration};
+ghost use Rattle.luau_run.specs.Program.{Declared, declaration, Program};
 ghost use Rattle.luau_run.specs.Certain.{Certain};
 ghost use Rattle.luau_run.specs.Examples.{abs};
 ghost use Rattle.rules_certain.specs.Literal.{Literal, NumberLiteral};
-ghost use Rattle.rules_certain.specs.Calls.{Written, program_of};
+ghost use Rattle.rules_certain.specs.Calls.{Written, AllReadAs, program_of};
 ghost use Rattle.rules_certain.specs.Reports.{reports_of, IsWrongLiteral};
 ghost use Rattle.rules_certain.specs.Examples.{program_for, reports_for, report_at};
 
 /// Over whatever builtins of which `math.abs` is declared as checked, with a number as its one parameter: in no run of
 /// any of the modules is an activation left that reached a report, which is a literal that isn't a number.
-#[tactic(auto, using(crate::proofs::RunOf::certain, crate::proofs::RunOf::one_is_certain))]
+#[tactic(auto, using(crate::proofs::RunOf::read_is_certain, crate::proofs::RunOf::certain, crate::proofs::RunOf::one_is_certain))]
 pub fn reports_certain()
+    ensures readings { (program : Program) (modules : List (List Written)) → declaration program.builtins (codes "math.abs") ≡ Some abs.signature
+        → AllReadAs modules program.modules → Certain program (reports_of modules) }
     ensures modules { (builtins : List Declared) (modules : List (List Written)) → declaration builtins (codes "math.abs") ≡ Some abs.signature
         → Certain (program_of builtins modules) (reports_of modules) }
     ensures one_module { (literals : List Literal) → Certain (program_for literals) (reports_for literals) }
