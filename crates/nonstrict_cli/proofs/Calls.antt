@@ -1,10 +1,12 @@
 -- Reading calls one after the other.
-use Rattle.std.proofs.Common.{◌≡◌, ◌<◌, ◌++◌, ℕ, Bool, List, [], ◌∷◌, Option, None, Some, length, drop, map, refl, arith, ap, sym, ◌∙◌, append_assoc, option_map}
+use Rattle.std.proofs.Common.{not, ◌≡◌, ◌<◌, ◌++◌, ℕ, Bool, List, [], ◌∷◌, Option, None, Some, length, drop, map, refl, arith, ap, sym, ◌∙◌, append_assoc, option_map}
 use Rattle.std.specs.Option.{option_and_then}
 use Rattle.luau_lex.specs.declared.token.Token.{Token}
 use Rattle.luau_lex.specs.Tokens.{Tok, seen_token}
 use Rattle.nonstrict_cli.specs.declared.form.Call as code
-use Rattle.nonstrict_cli.specs.Form.{faults_in, faults_of, offsets_at}
+use Rattle.rules_certain.specs.Literal.{Literal, is_number}
+use Rattle.rules_certain.specs.Calls.{Written}
+use Rattle.nonstrict_cli.specs.Form.{Call, call_in, calls_in, faults_in, offset_of, offsets_at, offsets_of, written_as}
 use Rattle.nonstrict_cli.specs.Seen.{call_then, seen_call}
 
 -- two parts before are one
@@ -12,12 +14,24 @@ option_map-append : (xs ys : List ℕ) (later : Option (List ℕ)) → option_ma
 option_map-append xs ys None = refl
 option_map-append xs ys (Some l) = ap Some (sym (append_assoc xs ys l))
 
+-- where the calls are reported, call by call
+call_by_call : (call : Option Written) (calls : Option (List Written)) → option_map offsets_of (option_and_then (λ c. option_map (λ later. c ∷ later) calls) call) ≡ option_and_then (λ here. option_map (λ later. here ++ later) (option_map offsets_of calls)) (option_map offset_of call)
+call_by_call None calls = refl
+call_by_call (Some c) None = refl
+call_by_call (Some c) (Some calls) = refl
+
+-- a token that is a literal is reported where that is no number
+pub reported_at : (c : Call) (l : Option Literal) → option_map (offsets_at c.literal.span.start) (option_map (λ literal. not (is_number literal)) l) ≡ option_map offset_of (option_map (written_as c) l)
+reported_at c None = refl
+reported_at c (Some l) = refl
+
 -- reading goes on behind a call
-pub faults_step : (text : List ℕ) (tokens rest : List Token) (at : ℕ) (call : code.Call) (found more : List ℕ) (fails : Bool) → drop at tokens ≡ call_then call rest → Some (offsets_at call.literal.span.start fails) ≡ faults_of text (seen_call call) → more ≡ found ++ offsets_at call.literal.span.start fails → faults_in text (map seen_token tokens) ≡ option_map (λ later. found ++ later) (faults_in text (map seen_token (drop at tokens))) → faults_in text (map seen_token tokens) ≡ option_map (λ later. more ++ later) (faults_in text (map seen_token rest))
+pub faults_step : (text : List ℕ) (tokens rest : List Token) (at : ℕ) (call : code.Call) (found more : List ℕ) (fails : Bool) → drop at tokens ≡ call_then call rest → Some (offsets_at call.literal.span.start fails) ≡ option_map offset_of (call_in text (seen_call call)) → more ≡ found ++ offsets_at call.literal.span.start fails → faults_in text (map seen_token tokens) ≡ option_map (λ later. found ++ later) (faults_in text (map seen_token (drop at tokens))) → faults_in text (map seen_token tokens) ≡ option_map (λ later. more ++ later) (faults_in text (map seen_token rest))
 faults_step text tokens rest at call found more fails split told added inv =
     let left = faults_in text (map seen_token rest) in
     inv
     ∙ ap (λ l. option_map (λ later. found ++ later) (faults_in text (map seen_token l))) split
+    ∙ ap (option_map (λ later. found ++ later)) (call_by_call (call_in text (seen_call call)) (calls_in text (map seen_token rest)))
     ∙ ap (λ o. option_map (λ later. found ++ later) (option_and_then (λ here. option_map (λ later. here ++ later) left) o)) (sym told)
     ∙ option_map-append found (offsets_at call.literal.span.start fails) left
     ∙ ap (λ f. option_map (λ later. f ++ later) left) (sym added)

@@ -4,3 +4,4 @@ pub mod Pieces
 pub mod Ends
 pub mod Cuts
 pub mod Calls
+pub mod CertainReports

@@ -9,3 +9,4 @@ pub mod Answer
 pub mod Run
 pub mod Seen
 pub mod Fault
+pub mod Certainty

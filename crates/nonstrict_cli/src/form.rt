@@ -1,7 +1,8 @@
 //! Reads the form that is built so far: calls of `math.abs`, each with one literal.
-ghost use Rattle.std.specs.Prelude.{◌≡◌, ◌+◌, ◌-◌, ◌≤◌, ◌++◌, IfOk, OnOk, drop, length, map, option_map, take};
+ghost use Rattle.std.specs.Prelude.{◌≡◌, ◌+◌, ◌-◌, ◌≤◌, ◌++◌, IfOk, OnOk, drop, length, map, not, option_map, take};
 ghost use Rattle.luau_lex.specs.Tokens.{seen_token};
-ghost use Rattle.nonstrict_cli.specs.Form.{faults_in, faults_of, is_call, is_on_line_of, is_spelled, literal_of, offsets_at};
+ghost use Rattle.nonstrict_cli.specs.Form.{call_in, faults_in, is_call, is_on_line_of, is_spelled, literal_in, offset_of, offsets_at};
+ghost use Rattle.rules_certain.specs.Literal.{is_number};
 ghost use Rattle.nonstrict_cli.specs.Seen.{call_then, seen_call};
 
 use luau_lex::{Kind, Token};
@@ -58,7 +59,7 @@ fn is_on_line_of(text: &[u8], first: &Token<'_>, second: &Token<'_>) -> bool
 
 /// Whether a literal fails as an argument of `math.abs`, if the token is a literal.
 fn literal_of(token: &Token<'_>) -> Option<bool>
-    ensures { result ≡ literal_of token.now.kind token.now.text.now }
+    ensures { result ≡ option_map (λ literal. not (is_number literal)) (literal_in token.now.kind token.now.text.now) }
 {
     match token.kind {
         Kind::Numeral => Some(false),
@@ -91,7 +92,7 @@ fn is_call(text: &[u8], call: &Call<'_>) -> bool
 
 /// Whether the call fails, if it is a call of `math.abs` with one literal.
 fn fails(text: &[u8], call: &Call<'_>) -> Option<bool>
-    ensures { option_map (offsets_at call.now.literal.span.start) result ≡ faults_of text.now (seen_call call.now) }
+    ensures { option_map (offsets_at call.now.literal.span.start) result ≡ option_map offset_of (call_in text.now (seen_call call.now)) }
 {
     if is_call(text, call) {
         literal_of(&call.literal)

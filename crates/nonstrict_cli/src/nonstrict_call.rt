@@ -2,6 +2,7 @@
 ghost use Rattle.std.specs.Prelude.{◌≡◌, ◌<◌, ◌↔◌, None, IfSome, map, string_bytes};
 ghost use Rattle.outside.specs.Cause.{Rose};
 ghost use Rattle.outside.specs.Written.{Appends};
+ghost use Rattle.nonstrict_cli.specs.Certainty.{ReportsAreCertain};
 ghost use Rattle.nonstrict_cli.specs.Command.{command};
 ghost use Rattle.nonstrict_cli.specs.Output.{output};
 ghost use Rattle.nonstrict_cli.specs.Status.{IsAnswer, IsSilent};
@@ -19,6 +20,7 @@ use std::alloc::Global;
 ///
 /// What is written, and the status, are those of `Output` in `docs/PROGRAM.md`. All text is built before the first
 /// write, and no memory is taken from then on.
+#[tactic(auto, using(crate::proofs::CertainReports::reports_are_certain))]
 pub fn nonstrict<T: Tree, S: Sink>(
     alloc: Global,
     words: &[String],
@@ -48,6 +50,9 @@ pub fn nonstrict<T: Tree, S: Sink>(
     ensures part { result ≡ Status.WriteFault → IfSome (T.contents tree.old) (λ contents. AppendsPart (S.written sink.old) (S.written sink.new) (output (map string_bytes words.now) contents).bytes) }
 
     ensures same { T.contents tree.new ≡ T.contents tree.old }
+
+    // The reports of the checked modules, one for each argument line of the output, are certain.
+    ensures certain { IfSome (T.contents tree.old) (λ contents. IfSome (command (map string_bytes words.now)) (λ folder. ReportsAreCertain (contents folder))) }
 {
     match make_answer(alloc, words, tree) {
         Err(stop) => stop.into(),

@@ -1,0 +1,40 @@
+-- What is claimed of the reports of a folder.
+use Rattle.std.specs.Prelude.{◌≡◌, ℕ, List, [], ◌∷◌, Option, None, Some, Result, Ok, Err, codes}
+use Rattle.luau_lex.specs.declared.token.LexError.{LexError}
+use Rattle.luau_lex.specs.Tokens.{Tok, tokens_of}
+use Rattle.luau_run.specs.Program.{Declared, declaration}
+use Rattle.luau_run.specs.Certain.{Certain}
+use Rattle.luau_run.specs.Examples.{abs}
+use Rattle.outside.specs.Contents.{File}
+use Rattle.rules_certain.specs.Calls.{Written, program_of}
+use Rattle.rules_certain.specs.Reports.{reports_of}
+use Rattle.nonstrict_cli.specs.Folder.{module_paths, refusal_of, source, text_behind_mark}
+use Rattle.nonstrict_cli.specs.Form.{calls_in}
+
+-- the calls of a text by its tokens, if they are of the built form
+abbrev pub calls_by : List ℕ → Result (List Tok) LexError → Option (List Written)
+calls_by text (Err fault) = None
+calls_by text (Ok tokens) = calls_in text tokens
+
+-- the calls of a file by why it is refused for its size or its name, if it is checked
+abbrev pub calls_unless : Option (List ℕ) → List ℕ → Option (List Written)
+calls_unless (Some why) bytes = None
+calls_unless None bytes = calls_by (text_behind_mark bytes) (tokens_of (text_behind_mark bytes))
+
+-- one more module, if it is checked
+abbrev pub with_module : Option (List Written) → List (List Written) → List (List Written)
+with_module None modules = modules
+with_module (Some calls) modules = calls ∷ modules
+
+-- the checked modules of a folder at these paths, each as its calls
+abbrev pub checked_at : List File → List (List ℕ) → List (List Written)
+checked_at files [] = []
+checked_at files (path ∷ paths) = with_module (calls_unless (refusal_of (module_paths files) path (source files path)) (source files path)) (checked_at files paths)
+
+-- the checked modules of a folder, in the order of their paths
+abbrev pub checked_of : List File → List (List Written)
+checked_of files = checked_at files (module_paths files)
+
+-- The reports of a folder are certain: over whatever builtins of which `math.abs` keeps its declaration, no run of any checked module reaches a literal that is reported and leaves its activation.
+abbrev pub ReportsAreCertain : List File → Type 0
+ReportsAreCertain files = (builtins : List Declared) → declaration builtins (codes "math.abs") ≡ Some abs.signature → Certain (program_of builtins (checked_of files)) (reports_of (checked_of files))
