@@ -1,25 +1,7 @@
 #!/usr/bin/env bash
 # Times how the built program cuts 64 MiB of mixed tokens, in files of 1 MiB, beside `wc -w` on the same files, and
 # prints the ratio. Run `make build` first; nothing depends on what this prints.
-set -eu
-cd "$(dirname "$0")/.."
-program=$PWD/bin/luau-nonstrict
-[ -x "$program" ] || { echo "no bin/luau-nonstrict: run 'make build' first" >&2; exit 1; }
-work=$(mktemp -d)
-trap 'rm -rf "$work"' EXIT
-
-# The least of five times of a command, in seconds; what it prints is dropped.
-seconds() {
-    local best='' start end took
-    for _ in 1 2 3 4 5; do
-        start=$(date +%s%N)
-        "$@" >/dev/null 2>&1 || true
-        end=$(date +%s%N)
-        took=$((end - start))
-        if [ -z "$best" ] || [ "$took" -lt "$best" ]; then best=$took; fi
-    done
-    awk -v ns="$best" 'BEGIN { printf "%.3f", ns / 1e9 }'
-}
+source "$(dirname "$0")/common.sh"
 
 # Lines of names, words, numerals, strings of each form, signs and comments, up to 1,048,576 bytes.
 awk 'BEGIN {
