@@ -5,3 +5,4 @@ pub mod Ends
 pub mod Cuts
 pub mod Calls
 pub mod CertainReports
+pub mod ReportLines

@@ -5,6 +5,7 @@ mod answer;
 mod file;
 mod folder;
 mod form;
+pub mod laws;
 mod limits;
 mod nonstrict_call;
 mod paths;
