@@ -1,7 +1,7 @@
 -- What the runs of calls of `math.abs` log.
 use Rattle.std.proofs.Common.{◌≡◌, ℕ, zero, suc, Bool, true, false, if◌then◌else◌, List, [], ◌∷◌, ◌++◌, length, Option, Some, None, refl, sym, ◌∙◌, ap, subst, Contains, codes}
 use Rattle.std.specs.Bool.{⊤}
-use Rattle.luau_values.specs.Value.{Value, Builtin}
+use Rattle.luau_values.specs.Value.{Value, Nil, Truth, Num, Str, Builtin}
 use Rattle.luau_values.specs.Heap.{is_frozen}
 use Rattle.luau_tree.specs.declared.names.Place.{Place}
 use Rattle.luau_tree.specs.declared.position.Span.{Span}
@@ -15,10 +15,17 @@ use Rattle.luau_run.specs.Expressions.{value, call_expr, evaluate_or_builtin, va
 use Rattle.luau_run.specs.Statements.{stat}
 use Rattle.luau_run.specs.Run.{layer_of}
 use Rattle.luau_run.specs.Examples.{abs}
-use Rattle.rules_certain.specs.Literal.{Literal, NilLiteral, TruthLiteral, NumberLiteral, StrLiteral, is_number, kind_of, value_of}
+use Rattle.rules_certain.specs.Literal.{Literal, NilLiteral, TruthLiteral, NumberLiteral, StrLiteral, is_number, kind_of}
 use Rattle.rules_certain.specs.Calls.{Written, stat_of, after_call, block_of}
 use Rattle.rules_certain.specs.Reports.{place, argument_of}
 use Rattle.rules_certain.proofs.Parts.{NoLeave, Clear, clear_no_leave, reach_no_leave, reach_clear, Post, post_then, post_step, Said, post_ask}
+
+-- the value of a literal
+abbrev value_of : Literal → Value
+value_of NilLiteral = Nil
+value_of (TruthLiteral truth) = Truth truth
+value_of (NumberLiteral text) = Num text
+value_of (StrLiteral bytes) = Str bytes
 
 -- an act that calls nothing, or an end
 abbrev IsSilent : Move → Type 0

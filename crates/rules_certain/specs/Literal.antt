@@ -1,6 +1,5 @@
 -- Literals, as they stand in a text.
 use Rattle.std.specs.Prelude.{ℕ, Bool, true, false, List}
-use Rattle.luau_values.specs.Value.{Value, Nil, Truth, Num, Str}
 use Rattle.luau_tree.specs.Tree.{ExprKind, NilExpr, TrueExpr, FalseExpr, NumberExpr, StrExpr}
 
 -- a literal: nil, a boolean, a number by its text, or a string by its bytes
@@ -22,10 +21,3 @@ kind_of (TruthLiteral true) = TrueExpr
 kind_of (TruthLiteral false) = FalseExpr
 kind_of (NumberLiteral text) = NumberExpr text
 kind_of (StrLiteral bytes) = StrExpr bytes
-
--- the value of a literal
-abbrev pub value_of : Literal → Value
-value_of NilLiteral = Nil
-value_of (TruthLiteral truth) = Truth truth
-value_of (NumberLiteral text) = Num text
-value_of (StrLiteral bytes) = Str bytes
