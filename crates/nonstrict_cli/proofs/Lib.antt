@@ -6,3 +6,5 @@ pub mod Cuts
 pub mod Calls
 pub mod CertainReports
 pub mod ReportLines
+pub mod Reported
+pub mod ReportedLines

@@ -1,5 +1,5 @@
 -- What is claimed of the reports of a folder.
-use Rattle.std.specs.Prelude.{◌≡◌, ℕ, List, [], ◌∷◌, Option, None, Some, Result, Ok, Err, codes}
+use Rattle.std.specs.Prelude.{◌≡◌, ℕ, List, [], ◌∷◌, Option, None, Some, Result, Ok, Err, codes, flat_map, map}
 use Rattle.luau_lex.specs.declared.token.LexError.{LexError}
 use Rattle.luau_lex.specs.Tokens.{Tok, tokens_of}
 use Rattle.luau_run.specs.Program.{Declared, declaration}
@@ -21,19 +21,28 @@ abbrev pub calls_unless : Option (List ℕ) → List ℕ → Option (List Writte
 calls_unless (Some why) bytes = None
 calls_unless None bytes = calls_by (text_behind_mark bytes) (tokens_of (text_behind_mark bytes))
 
--- one more module, if it is checked
-abbrev pub with_module : Option (List Written) → List (List Written) → List (List Written)
-with_module None modules = modules
-with_module (Some calls) modules = calls ∷ modules
+-- a checked module: its path, its text, and the calls that this is
+pub record Checked : Type 0 where
+  pub path : List ℕ
+  pub text : List ℕ
+  pub calls : List Written
 
--- the checked modules of a folder at these paths, each as its calls
-abbrev pub checked_at : List File → List (List ℕ) → List (List Written)
-checked_at files [] = []
-checked_at files (path ∷ paths) = with_module (calls_unless (refusal_of (module_paths files) path (source files path)) (source files path)) (checked_at files paths)
+-- the module at a path with these bytes, by its calls, if it is checked
+abbrev pub checked_as : List ℕ → List ℕ → Option (List Written) → List Checked
+checked_as path bytes None = []
+checked_as path bytes (Some calls) = record { path = path; text = text_behind_mark bytes; calls = calls } ∷ []
+
+-- the module at a path of a folder, if it is checked
+abbrev pub checked_at : List File → List ℕ → List Checked
+checked_at files path = checked_as path (source files path) (calls_unless (refusal_of (module_paths files) path (source files path)) (source files path))
 
 -- the checked modules of a folder, in the order of their paths
+abbrev pub checked_modules : List File → List Checked
+checked_modules files = flat_map (checked_at files) (module_paths files)
+
+-- the calls of each checked module
 abbrev pub checked_of : List File → List (List Written)
-checked_of files = checked_at files (module_paths files)
+checked_of files = map (λ m. m.calls) (checked_modules files)
 
 -- The reports of a folder are certain: over whatever builtins of which `math.abs` keeps its declaration, no run of any checked module reaches a literal that is reported and leaves its activation.
 abbrev pub ReportsAreCertain : List File → Type 0

@@ -90,9 +90,13 @@ lines_unless None path bytes = lines_of_text path (text_behind_mark bytes)
 abbrev pub lines_of_file : List (List ℕ) → List ℕ → List ℕ → List Line
 lines_of_file paths path text = lines_unless (refusal_of paths path text) path text
 
+-- the lines of the modules of a folder, one module behind the other
+abbrev pub lines_by_module : List File → List Line
+lines_by_module files = flat_map (λ path. lines_of_file (module_paths files) path (source files path)) (module_paths files)
+
 -- the lines of a folder: those of all its modules, sorted and each once
 abbrev pub lines_of : List File → List Line
-lines_of files = sorted_lines (flat_map (λ path. lines_of_file (module_paths files) path (source files path)) (module_paths files))
+lines_of files = sorted_lines (lines_by_module files)
 
 -- the first sum of these sizes that passes the limit on bytes, from a sum before them
 abbrev pub first_over : ℕ → List ℕ → Option ℕ

@@ -10,3 +10,4 @@ pub mod Run
 pub mod Seen
 pub mod Fault
 pub mod Certainty
+pub mod Reported
