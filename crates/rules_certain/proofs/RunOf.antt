@@ -1,5 +1,5 @@
 -- The runs of programs of calls: reports at literals that aren't numbers are certain.
-use Rattle.std.proofs.Common.{◌≡◌, ℕ, zero, suc, ◌+◌, ◌≤◌, Bool, true, false, if◌then◌else◌, List, [], ◌∷◌, length, map, Option, Some, None, slice_get, refl, sym, subst, arith, Contains, codes}
+use Rattle.std.proofs.Common.{◌≡◌, ℕ, zero, suc, ◌+◌, ◌≤◌, Bool, true, false, if◌then◌else◌, List, [], ◌∷◌, length, Option, Some, None, slice_get, refl, sym, subst, arith, Contains, codes}
 use Rattle.luau_tree.specs.declared.names.Place.{Place}
 use Rattle.luau_tree.specs.Tree.{Block}
 use Rattle.luau_run.specs.Program.{Declared, declaration, ReadModule, Program}
@@ -10,7 +10,7 @@ use Rattle.luau_run.specs.Run.{layer_of, start, end_of}
 use Rattle.luau_run.specs.Certain.{StaysAt, Certain}
 use Rattle.luau_run.specs.Examples.{abs}
 use Rattle.rules_certain.specs.Literal.{Literal, is_number}
-use Rattle.rules_certain.specs.Calls.{Written, after_call, block_of, use_in, ReadsAs, AllReadAs, module_of, program_of}
+use Rattle.rules_certain.specs.Calls.{Written, after_call, block_of, use_in, ReadsAs, AllReadAs, modules_from, program_of}
 use Rattle.rules_certain.specs.Reports.{place, argument_of, reports_in, reports_of}
 use Rattle.rules_certain.specs.Examples.{modules_for, program_for, reports_for}
 use Rattle.rules_certain.proofs.Parts.{Clear, no_leave_stays, clear_left_stays, Post}
@@ -82,13 +82,13 @@ read_is_certain program modules declared h entry steps tape =
     module_stays program declared (reports_of modules) (suc (steps + length tape)) entry steps tape (slice_get program.modules entry)
     (subst (λ (m : ℕ). Found (reports_of modules) m (slice_get program.modules entry)) (omega arith) (found 0 modules program.modules entry h))
 
-all_read : (modules : List (List Written)) → AllReadAs modules (map module_of modules)
-all_read [] = tt
-all_read (calls ∷ modules) = (record { statements = refl; names = λ id. refl; no_require = λ id. refl }, all_read modules)
+pub all_read : (home : ℕ) (modules : List (List Written)) → AllReadAs modules (modules_from home modules)
+all_read home [] = tt
+all_read home (calls ∷ modules) = (record { statements = refl; names = λ id. refl; no_require = λ id. refl }, all_read (suc home) modules)
 
 pub certain : (builtins : List Declared) (modules : List (List Written)) → declaration builtins (codes "math.abs") ≡ Some abs.signature
     → Certain (program_of builtins modules) (reports_of modules)
-certain builtins modules declared = read_is_certain (program_of builtins modules) modules declared (all_read modules)
+certain builtins modules declared = read_is_certain (program_of builtins modules) modules declared (all_read 1 modules)
 
 pub one_is_certain : (literals : List Literal) → Certain (program_for literals) (reports_for literals)
 one_is_certain literals = certain (abs ∷ []) (modules_for literals) refl

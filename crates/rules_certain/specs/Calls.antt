@@ -1,7 +1,7 @@
 -- Modules of the built form: a list of statements, each a call of `math.abs` with one literal. The expressions of such a
 -- statement have four numbers in a row, in the order of the text: the call, the callee `math.abs`, its base `math`, and
 -- the literal.
-use Rattle.std.specs.Prelude.{◌≡◌, ⊤, ℕ, zero, suc, true, List, [], ◌∷◌, map, Option, Some, None, codes}
+use Rattle.std.specs.Prelude.{◌≡◌, ⊤, ℕ, zero, suc, true, List, [], ◌∷◌, Option, Some, None, codes}
 use Rattle.luau_tree.specs.declared.position.Span.{Span}
 use Rattle.luau_tree.specs.Tree.{Block, no_stats, more_stats, Stat, the_stat, CallStat, the_expr, no_exprs, more_exprs, Call, Index, NameExpr}
 use Rattle.luau_run.specs.Program.{Declared, Use, UseBuiltin, UseLibrary, ReadModule, Program}
@@ -53,10 +53,10 @@ AllReadAs [] [] = ⊤
 AllReadAs (calls ∷ modules) (reading ∷ readings) = ReadsAs calls reading × AllReadAs modules readings
 AllReadAs _ _ = ⊥
 
--- the module of some calls; it declares no local, has no function literal and requires nothing
-abbrev pub module_of : List Written → ReadModule
-module_of calls = record {
-  home = 0;
+-- the module of some calls, with a home; it declares no local, has no function literal and requires nothing
+abbrev pub module_of : (home : ℕ) → List Written → ReadModule
+module_of home calls = record {
+  home = home;
   block = block_of 0 calls;
   use_of = use_in calls;
   local_at = λ offset. 0;
@@ -65,6 +65,11 @@ module_of calls = record {
   required = λ id. None;
 }
 
+-- the modules of some lists of calls, with homes that count from the given one
+abbrev pub modules_from : (home : ℕ) → List (List Written) → List ReadModule
+modules_from home [] = []
+modules_from home (calls ∷ modules) = module_of home calls ∷ modules_from (suc home) modules
+
 -- the program of some modules, each a list of calls, over declared builtins
 abbrev pub program_of : List Declared → List (List Written) → Program
-program_of builtins modules = record { modules = map module_of modules; builtins = builtins }
+program_of builtins modules = record { modules = modules_from 1 modules; builtins = builtins }

@@ -1,7 +1,7 @@
 -- Modules of the built form without regard to where they stand in a text.
 use Rattle.std.specs.Prelude.{ℕ, ◌*◌, List, [], ◌∷◌, map}
 use Rattle.luau_tree.specs.declared.names.Place.{Place}
-use Rattle.luau_run.specs.Program.{Program}
+use Rattle.luau_run.specs.Program.{ReadModule, Program}
 use Rattle.luau_run.specs.Machine.{Event, Answer}
 use Rattle.luau_run.specs.Run.{run, end_of}
 use Rattle.luau_run.specs.Examples.{abs, somewhere, Outcome, outcome}
@@ -30,6 +30,10 @@ abbrev pub outcome_and_trace : List Literal → (steps : ℕ) → List Answer �
 outcome_and_trace literals steps tape =
     (outcome (run (program_for literals) 0 steps tape), (end_of (run (program_for literals) 0 steps tape)).trace)
 
--- a report at the literal of one of that program's calls, counted from 0
-abbrev pub report_at : (position : ℕ) → List (ℕ × Place)
-report_at position = (0, argument_of (position * 4)) ∷ []
+-- the program of some modules, however they were read, where `math.abs` is the only builtin
+abbrev pub over_abs : List ReadModule → Program
+over_abs readings = record { modules = readings; builtins = abs ∷ [] }
+
+-- a report at the literal of one of a module's calls, counted from 0
+abbrev pub report_at : (module_at position : ℕ) → List (ℕ × Place)
+report_at module_at position = (module_at, argument_of (position * 4)) ∷ []

@@ -1,5 +1,6 @@
 -- What is reported in modules of the built form: each literal that is no number.
-use Rattle.std.specs.Prelude.{◌≡◌, ℕ, suc, ◌*◌, false, if◌then◌else◌, List, [], ◌∷◌, ◌++◌, Some, slice_get}
+use Rattle.std.specs.Prelude.{◌≡◌, ℕ, suc, ◌*◌, true, false, if◌then◌else◌, List, [], ◌∷◌, ◌++◌, Some, slice_get}
+use Rattle.std.specs.List.{AllByRecursion}
 use Rattle.luau_tree.specs.declared.names.Place.{Place}
 use Rattle.luau_tree.specs.declared.names.Place.TheVariants.{Expr as ExprPlace}
 use Rattle.rules_certain.specs.Literal.{is_number}
@@ -33,3 +34,7 @@ reports_of modules = reports_from 0 modules
 abbrev pub IsWrongLiteral : List (List Written) → (report : ℕ × Place) → Type 0
 IsWrongLiteral modules report = (calls : List Written) × (k : ℕ) × (w : Written)
     × (slice_get modules report.0 ≡ Some calls) × (slice_get calls k ≡ Some w) × (is_number w.literal ≡ false) × (report.1 ≡ argument_of (k * 4))
+
+-- the literal of each call is a number
+abbrev pub AreNumbers : List Written → Type 0
+AreNumbers calls = AllByRecursion (λ w. is_number w.literal ≡ true) calls

@@ -1,16 +1,16 @@
 //! What is reported of modules of the built form, and that it is certain. Each law is the contract of a function that
 //! does nothing.
 
-ghost use Rattle.std.specs.Prelude.{◌≡◌, ◌↔◌, ◌<◌, ℕ, List, length, map, Some, codes};
+ghost use Rattle.std.specs.Prelude.{◌≡◌, ◌↔◌, ◌<◌, ◌∷◌, [], ℕ, List, length, slice_get, Some, codes};
 ghost use Rattle.std.specs.List.{Contains};
 ghost use Rattle.luau_tree.specs.declared.names.Place.{Place};
-ghost use Rattle.luau_run.specs.Program.{Declared, declaration, Program};
+ghost use Rattle.luau_run.specs.Program.{Declared, declaration, Program, ReadModule};
 ghost use Rattle.luau_run.specs.Certain.{Certain};
 ghost use Rattle.luau_run.specs.Examples.{abs};
-ghost use Rattle.rules_certain.specs.Literal.{Literal, NumberLiteral};
+ghost use Rattle.rules_certain.specs.Literal.{Literal};
 ghost use Rattle.rules_certain.specs.Calls.{Written, AllReadAs, program_of};
-ghost use Rattle.rules_certain.specs.Reports.{reports_of, IsWrongLiteral};
-ghost use Rattle.rules_certain.specs.Examples.{program_for, reports_for, report_at};
+ghost use Rattle.rules_certain.specs.Reports.{reports_of, AreNumbers, IsWrongLiteral};
+ghost use Rattle.rules_certain.specs.Examples.{program_for, reports_for, over_abs, report_at};
 
 /// Over whatever builtins of which `math.abs` is declared as checked, with a number as its one parameter: in no run of
 /// any of the modules is an activation left that reached a report, which is a literal that isn't a number.
@@ -28,8 +28,13 @@ pub fn reports_are_exact()
     ensures { (modules : List (List Written)) (report : ℕ × Place) → Contains (reports_of modules) report ↔ IsWrongLiteral modules report }
 {}
 
-/// Where each literal is a number, a report at any one of them isn't certain: some run is left after it.
+/// Where each literal of a module is a number, a report at any one of them isn't certain, wherever the module stands among
+/// others: a run of it is left after it reached the place.
 pub fn report_at_number_is_not_certain()
-    ensures { (texts : List (List ℕ)) (position : ℕ) → position < length texts
-        → Certain (program_for (map NumberLiteral texts)) (report_at position) → ⊥ }
+    ensures readings { (modules : List (List Written)) (readings : List ReadModule) (at position : ℕ) (calls : List Written)
+        → AllReadAs modules readings → slice_get modules at ≡ Some calls → AreNumbers calls → position < length calls
+        → Certain (over_abs readings) (report_at at position) → ⊥ }
+    ensures modules { (modules : List (List Written)) (at position : ℕ) (calls : List Written)
+        → slice_get modules at ≡ Some calls → AreNumbers calls → position < length calls
+        → Certain (program_of (abs ∷ []) modules) (report_at at position) → ⊥ }
 {}
