@@ -20,11 +20,6 @@ call_by_call None calls = refl
 call_by_call (Some c) None = refl
 call_by_call (Some c) (Some calls) = refl
 
--- a token that is a literal is reported where that is no number
-pub reported_at : (c : Call) (l : Option Literal) → option_map (offsets_at c.literal.span.start) (option_map (λ literal. not (is_number literal)) l) ≡ option_map offset_of (option_map (written_as c) l)
-reported_at c None = refl
-reported_at c (Some l) = refl
-
 -- reading goes on behind a call
 pub faults_step : (text : List ℕ) (tokens rest : List Token) (at : ℕ) (call : code.Call) (found more : List ℕ) (fails : Bool) → drop at tokens ≡ call_then call rest → Some (offsets_at call.literal.span.start fails) ≡ option_map offset_of (call_in text (seen_call call)) → more ≡ found ++ offsets_at call.literal.span.start fails → faults_in text (map seen_token tokens) ≡ option_map (λ later. found ++ later) (faults_in text (map seen_token (drop at tokens))) → faults_in text (map seen_token tokens) ≡ option_map (λ later. more ++ later) (faults_in text (map seen_token rest))
 faults_step text tokens rest at call found more fails split told added inv =

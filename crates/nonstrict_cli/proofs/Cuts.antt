@@ -1,24 +1,6 @@
 -- Parts of lists.
-use Rattle.std.proofs.Common.{◌≡◌, ◌+◌, ◌≤◌, ◌<◌, ℕ, List, ◌∷◌, min, length, get_or, take, drop, arith, ap, sym, ◌∙◌, inl, inr}
-use Rattle.std.proofs.lemmas.Bool.Decides.{leb_tells}
-use Rattle.std.proofs.lemmas.List.{drop_all, drop_more, take_all}
-
--- nothing stands past the end
-drop-min : {T : Type 0} (n : ℕ) (xs : List T) → drop (min n (length xs)) xs ≡ drop n xs
-drop-min n xs = elim (leb_tells n (length xs)) [
-  | inl t ↦ let same : min n (length xs) ≡ n = omega arith in ap (λ m. drop m xs) same
-  | inr t ↦ drop_all (min n (length xs)) xs (omega arith) ∙ sym (drop_all n xs (omega arith))
-]
-
-take-min : {T : Type 0} (n : ℕ) (xs : List T) → take (min n (length xs)) xs ≡ take n xs
-take-min n xs = elim (leb_tells n (length xs)) [
-  | inl t ↦ let same : min n (length xs) ≡ n = omega arith in ap (λ m. take m xs) same
-  | inr t ↦ take_all (min n (length xs)) xs (omega arith) ∙ sym (take_all n xs (omega arith))
-]
-
--- a part that is cut where the list ends
-pub part-min : {T : Type 0} (from n : ℕ) (xs rest part : List T) → rest ≡ drop (min from (length xs)) xs → part ≡ take (min n (length rest)) rest → part ≡ take n (drop from xs)
-part-min from n xs rest part r p = p ∙ take-min n rest ∙ ap (take n) (r ∙ drop-min from xs)
+use Rattle.std.proofs.Common.{◌≡◌, ◌+◌, ◌≤◌, ◌<◌, ℕ, List, ◌∷◌, length, get_or, drop, arith, ap, sym, ◌∙◌}
+use Rattle.std.proofs.lemmas.List.{drop_more}
 
 -- the element at a place and what is behind it
 one : {T : Type 0} (xs : List T) (i j : ℕ) (a : T) → i < length xs → j ≡ i + 1 → a ≡ get_or xs i a → drop i xs ≡ a ∷ drop j xs
