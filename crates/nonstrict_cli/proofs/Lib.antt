@@ -4,7 +4,6 @@ pub mod Pieces
 pub mod Ends
 pub mod Cuts
 pub mod Calls
-pub mod CertainReports
 pub mod ReportLines
 pub mod Reported
 pub mod ReportedLines

@@ -1,14 +1,19 @@
 //! How lines and reports go together. Each law is the contract of a function that does nothing.
-ghost use Rattle.std.specs.Prelude.{◌≡◌, ℕ, List, [], ◌∷◌, None, Some, map};
+ghost use Rattle.std.specs.Prelude.{◌≡◌, ℕ, List, [], ◌∷◌, None};
 ghost use Rattle.luau_tree.specs.declared.position.Pos.{Pos};
-ghost use Rattle.luau_tree.specs.declared.names.Place.{Place};
 ghost use Rattle.outside.specs.Contents.{File};
-ghost use Rattle.rules_certain.specs.Calls.{Written, block_of};
-ghost use Rattle.rules_certain.specs.Reports.{reports_in};
-ghost use Rattle.nonstrict_cli.specs.Reported.{expr_start, LinesAreReports};
-ghost use Rattle.nonstrict_cli.specs.Certainty.{calls_unless};
-ghost use Rattle.nonstrict_cli.specs.Folder.{argument_line, lines_of_file, refusal_line, refusal_of, text_behind_mark};
-ghost use Rattle.nonstrict_cli.specs.Form.{offsets_of};
+ghost use Rattle.nonstrict_cli.specs.Reported.{LinesAreReports};
+ghost use Rattle.nonstrict_cli.specs.Certainty.{ReportsAreCertain, calls_unless};
+ghost use Rattle.nonstrict_cli.specs.Folder.{lines_of_file, refusal_line, refusal_of};
+
+use rules_certain::laws::reports_certain;
+
+/// The reports of a folder's checked modules are certain.
+pub fn reports_are_certain()
+    ensures { (files : List File) → ReportsAreCertain files }
+{
+    reports_certain();
+}
 
 /// The lines that say what fails are those of the reports, module by module.
 #[tactic(auto, using(crate::proofs::ReportedLines::lines_are_reports))]

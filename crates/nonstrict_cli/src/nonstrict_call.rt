@@ -4,6 +4,7 @@ ghost use Rattle.outside.specs.Cause.{Rose};
 ghost use Rattle.outside.specs.Written.{Appends};
 ghost use Rattle.nonstrict_cli.specs.Certainty.{ReportsAreCertain};
 ghost use Rattle.nonstrict_cli.specs.Command.{command};
+ghost use Rattle.nonstrict_cli.specs.Reported.{LinesAreReports};
 ghost use Rattle.nonstrict_cli.specs.Output.{output};
 ghost use Rattle.nonstrict_cli.specs.Status.{IsAnswer, IsSilent};
 ghost use Rattle.nonstrict_cli.specs.Run.{EndsWell};
@@ -11,6 +12,7 @@ ghost use Rattle.nonstrict_cli.specs.Written.{AppendsPart};
 
 use crate::Status;
 use crate::answer::make_answer;
+use crate::laws::{lines_are_reports, reports_are_certain};
 use crate::write::write_whole;
 use outside::{Sink, Tree};
 use std::alloc::Global;
@@ -20,7 +22,6 @@ use std::alloc::Global;
 ///
 /// What is written, and the status, are those of `Output` in `docs/PROGRAM.md`. All text is built before the first
 /// write, and no memory is taken from then on.
-#[tactic(auto, using(crate::proofs::CertainReports::reports_are_certain))]
 pub fn nonstrict<T: Tree, S: Sink>(
     alloc: Global,
     words: &[String],
@@ -51,9 +52,12 @@ pub fn nonstrict<T: Tree, S: Sink>(
 
     ensures same { T.contents tree.new ≡ T.contents tree.old }
 
-    // The reports of the checked modules, one for each argument line of the output, are certain.
+    // The lines of the output that say what fails are those of the reports of the checked modules, and these are certain.
+    ensures reports { IfSome (T.contents tree.old) (λ contents. IfSome (command (map string_bytes words.now)) (λ folder. LinesAreReports (contents folder))) }
     ensures certain { IfSome (T.contents tree.old) (λ contents. IfSome (command (map string_bytes words.now)) (λ folder. ReportsAreCertain (contents folder))) }
 {
+    lines_are_reports();
+    reports_are_certain();
     match make_answer(alloc, words, tree) {
         Err(stop) => stop.into(),
         Ok(answer) => {
