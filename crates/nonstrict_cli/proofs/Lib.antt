@@ -7,3 +7,4 @@ pub mod Calls
 pub mod ReportLines
 pub mod Reported
 pub mod ReportedLines
+pub mod Names

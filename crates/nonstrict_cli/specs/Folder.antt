@@ -73,6 +73,10 @@ lines_of_text path text = lines_by path text (tokens_of text)
 abbrev pub is_init : List ℕ → Bool
 is_init path = bytes_eq path (codes "init.luau") || bytes_eq path (codes "init.lua") || ends_with nat_eq path (codes "/init.luau") || ends_with nat_eq path (codes "/init.lua")
 
+-- the name of the module at a path: the path without its ending
+abbrev pub module_name : List ℕ → List ℕ
+module_name path = if ends_with nat_eq path (codes ".luau") then take (length path - 5) path else take (length path - 4) path
+
 -- the path of the same module name with the other ending, which is a `u` more or less
 abbrev pub twin_of : List ℕ → List ℕ
 twin_of path = if ends_with nat_eq path (codes ".luau") then take (length path - 1) path else path ++ codes "u"

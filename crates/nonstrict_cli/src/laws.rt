@@ -1,10 +1,10 @@
 //! How lines and reports go together. Each law is the contract of a function that does nothing.
-ghost use Rattle.std.specs.Prelude.{◌≡◌, ℕ, List, [], ◌∷◌, None};
+ghost use Rattle.std.specs.Prelude.{◌≡◌, ◌≢◌, ◌↔◌, ℕ, true, List, [], ◌∷◌, None};
 ghost use Rattle.luau_tree.specs.declared.position.Pos.{Pos};
 ghost use Rattle.outside.specs.Contents.{File};
 ghost use Rattle.nonstrict_cli.specs.Reported.{LinesAreReports};
 ghost use Rattle.nonstrict_cli.specs.Certainty.{ReportsAreCertain, calls_unless};
-ghost use Rattle.nonstrict_cli.specs.Folder.{lines_of_file, refusal_line, refusal_of};
+ghost use Rattle.nonstrict_cli.specs.Folder.{is_module_path, lines_of_file, module_name, refusal_line, refusal_of, twin_of};
 
 use rules_certain::laws::reports_certain;
 
@@ -26,4 +26,11 @@ pub fn lines_are_reports()
 pub fn modules_that_are_not_checked_have_one_refusal()
     ensures { (paths : List (List ℕ)) (path bytes : List ℕ) → calls_unless (refusal_of paths path bytes) bytes ≡ None
         → (place : Pos) × (why : List ℕ) × (lines_of_file paths path bytes ≡ refusal_line path place why ∷ []) }
+{}
+
+/// Of two paths of modules the second is the first with the other ending exactly where they are two paths with one module
+/// name.
+pub fn twins_have_one_name()
+    ensures { (path other : List ℕ) → is_module_path path ≡ true → is_module_path other ≡ true
+        → (other ≡ twin_of path) ↔ ((other ≢ path) × (module_name other ≡ module_name path)) }
 {}
