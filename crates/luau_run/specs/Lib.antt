@@ -12,3 +12,4 @@ pub mod Certain
 pub mod After
 pub mod Examples
 pub mod Forms
+pub mod Further

@@ -4,4 +4,5 @@
 
 pub mod examples;
 pub mod forms;
+pub mod further;
 pub mod laws;
