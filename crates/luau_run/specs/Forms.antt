@@ -49,8 +49,13 @@ declared local = the_bind [] (record { start = local; end = local }) no_type
 abbrev pub alone : ℕ → Binds
 alone local = more_binds (declared local) no_binds
 
+-- a name whose bytes play no part in a run, as those of a local
 abbrev pub name : ℕ → Expr
 name id = e id (NameExpr [])
+
+-- a library's name
+abbrev pub library : ℕ → List ℕ → Expr
+library id bytes = e id (NameExpr bytes)
 
 -- what the names stand for, by the numbers of their expressions
 abbrev pub stands_for : List (ℕ × Use) → ℕ → Option Use
@@ -129,7 +134,7 @@ required = over (
 -- `pcall(function() math.abs("hi") end)`
 abbrev pub failing_body : Body
 failing_body = the_body 0 false no_gens no_binds no_varargs no_type
-    (block_of (CallStat (e 3 (Call (e 4 (Index (name 5) (codes "abs"))) (exprs_of (e 6 (StrExpr (codes "hi")) ∷ [])))) ∷ [])) somewhere
+    (block_of (CallStat (e 3 (Call (e 4 (Index (library 5 (codes "math")) (codes "abs"))) (exprs_of (e 6 (StrExpr (codes "hi")) ∷ [])))) ∷ [])) somewhere
 
 abbrev pub caught_failure : Program
 caught_failure = over (module_of 1
@@ -140,7 +145,7 @@ caught_failure = over (module_of 1
 -- with `local t = nil`: `t[1] = 2`, `local x = t[1]`, `local x = t .. "s"`, `t[1] += 2`
 abbrev pub frozen_then : StatKind → Program
 frozen_then kind = over (module_of 1
-    (Local (alone 0) (exprs_of (e 0 (Call (e 1 (Index (name 2) (codes "freeze"))) (exprs_of (e 3 (TableExpr no_items) ∷ []))) ∷ [])) ∷ kind ∷ [])
+    (Local (alone 0) (exprs_of (e 0 (Call (e 1 (Index (library 2 (codes "table")) (codes "freeze"))) (exprs_of (e 3 (TableExpr no_items) ∷ []))) ∷ [])) ∷ kind ∷ [])
     ((1, UseBuiltin (codes "table.freeze")) ∷ (2, UseLibrary) ∷ (10, UseLocal 0) ∷ []) [] ∷ [])
 
 abbrev pub nil_then : StatKind → Program
@@ -151,7 +156,7 @@ element_of_t = e 9 (At (name 10) (e 11 one))
 
 abbrev pub failing : List Program
 failing =
-    over (module_of 1 (CallStat (e 0 (Call (name 1) no_exprs)) ∷ []) ((1, UseLibrary) ∷ []) [] ∷ [])
+    over (module_of 1 (CallStat (e 0 (Call (library 1 (codes "math")) no_exprs)) ∷ []) ((1, UseLibrary) ∷ []) [] ∷ [])
     ∷ frozen_then (Assign (exprs_of (e 9 (Index (name 10) (codes "x")) ∷ [])) (exprs_of (e 12 one ∷ [])))
     ∷ frozen_then (Assign (exprs_of (element_of_t ∷ [])) (exprs_of (e 12 one ∷ [])))
     ∷ nil_then (Assign (exprs_of (element_of_t ∷ [])) (exprs_of (e 12 one ∷ [])))
@@ -168,11 +173,12 @@ annotated_call argument = over (
     ((1, UseLocal 0) ∷ []) []) { annotated = λ function index. a_number }
     ∷ [])
 
--- `return math.none`, and the same by `local m = math`
+-- `return math.none`
 abbrev pub off_library : Program
-off_library = over (module_of 1 (Return (exprs_of (e 0 (Index (name 1) (codes "none")) ∷ [])) ∷ []) ((1, UseLibrary) ∷ []) [] ∷ [])
+off_library = over (module_of 1 (Return (exprs_of (e 0 (Index (library 1 (codes "math")) (codes "none")) ∷ [])) ∷ []) ((1, UseLibrary) ∷ []) [] ∷ [])
 
-abbrev pub off_table : Program
-off_table = over (module_of 1
-    (Local (alone 0) (exprs_of (name 0 ∷ [])) ∷ Return (exprs_of (e 1 (Index (name 2) (codes "none")) ∷ [])) ∷ [])
+-- `local t = LIBRARY`, `return t.NAME`
+abbrev pub off_table : (library field : List ℕ) → Program
+off_table of field = over (module_of 1
+    (Local (alone 0) (exprs_of (library 0 of ∷ [])) ∷ Return (exprs_of (e 1 (Index (name 2) field) ∷ [])) ∷ [])
     ((0, UseLibrary) ∷ (2, UseLocal 0) ∷ []) [] ∷ [])

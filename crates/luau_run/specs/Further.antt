@@ -2,10 +2,10 @@
 use Rattle.std.specs.Prelude.{ℕ, true, false, if◌then◌else◌, ◌==◌, ◌||◌, List, [], ◌∷◌, Some, None, codes}
 use Rattle.luau_tree.specs.declared.names.BinOp.TheVariants.{Or, And, Equal, Add, Concat, Less}
 use Rattle.luau_tree.specs.declared.names.UnOp.TheVariants.{Not}
-use Rattle.luau_tree.specs.Tree.{no_stats, StatKind, Assign, Compound, CallStat, Do, While, Repeat, If, NumFor, GenFor, FunctionStat, LocalFunction, Local, Return, Break, Continue, no_arms, more_arms, no_block, a_block, Expr, no_exprs, no_expr, ExprKind, NilExpr, TrueExpr, FalseExpr, StrExpr, Vararg, FunctionExpr, NameExpr, Index, At, Call, Method, Unary, Binary, IfElse, no_choices, more_choices, TableExpr, Field, Keyed, no_items, more_items, Body, the_body, no_varargs, varargs, Binds, no_binds, more_binds, no_gens, no_type}
+use Rattle.luau_tree.specs.Tree.{no_stats, StatKind, Assign, Compound, CallStat, Do, While, Repeat, If, NumFor, GenFor, FunctionStat, LocalFunction, Local, Return, Break, Continue, no_arms, more_arms, no_block, a_block, Expr, no_exprs, no_expr, ExprKind, NilExpr, TrueExpr, FalseExpr, StrExpr, Vararg, FunctionExpr, Index, At, Call, Method, Unary, Binary, IfElse, no_choices, more_choices, TableExpr, Field, Keyed, no_items, more_items, Body, the_body, no_varargs, varargs, Binds, no_binds, more_binds, no_gens, no_type}
 use Rattle.luau_tree.specs.declared.names.BinOp.{BinOp}
 use Rattle.luau_run.specs.Program.{Declared, Use, UseLocal, UseBuiltin, UseLibrary, UseGlobal, Program}
-use Rattle.luau_run.specs.Forms.{anything, e, block_of, exprs_of, declared, alone, name, module_of, over, one}
+use Rattle.luau_run.specs.Forms.{anything, e, block_of, exprs_of, declared, alone, name, library, module_of, over, one}
 
 abbrev pub str : ExprKind
 str = StrExpr (codes "s")
@@ -149,7 +149,7 @@ global_written = over (module_of 1 (assign (name 0) (e 1 one) ∷ returning (nam
 
 -- `return math["abs"]`
 abbrev pub library_element : Program
-library_element = over (module_of 1 (returning (e 0 (At (e 1 (NameExpr (codes "math"))) (e 2 (StrExpr (codes "abs")))) ∷ []) ∷ []) ((1, UseLibrary) ∷ []) [] ∷ [])
+library_element = over (module_of 1 (returning (e 0 (At (library 1 (codes "math")) (e 2 (StrExpr (codes "abs")))) ∷ []) ∷ []) ((1, UseLibrary) ∷ []) [] ∷ [])
 
 -- `local t = {["p"] = "s", [1] = 1}`, `return t.p`
 abbrev pub keyed_items : Program
@@ -242,18 +242,6 @@ abbrev pub frozen_twice : Program
 frozen_twice = over (module_of 1
     (returning (e 0 (Binary Equal (e 1 (Call (name 2) (exprs_of (e 3 (Call (name 4) (exprs_of (e 5 (TableExpr no_items) ∷ []))) ∷ [])))) (e 6 NilExpr)) ∷ []) ∷ [])
     ((2, UseBuiltin (codes "table.freeze")) ∷ (4, UseBuiltin (codes "table.freeze")) ∷ []) [] ∷ [])
-
--- `return math.none`, `local m = math return m.none`, and `math()`
-abbrev pub off_named_library : Program
-off_named_library = over (module_of 1 (returning (e 0 (Index (e 1 (NameExpr (codes "math"))) (codes "none")) ∷ []) ∷ []) ((1, UseLibrary) ∷ []) [] ∷ [])
-
-abbrev pub off_bound_library : List ℕ → Program
-off_bound_library field = over (module_of 1
-    (Local (alone 0) (exprs_of (e 0 (NameExpr (codes "table")) ∷ [])) ∷ returning (e 1 (Index (name 2) field) ∷ []) ∷ [])
-    ((0, UseLibrary) ∷ (2, UseLocal 0) ∷ []) [] ∷ [])
-
-abbrev pub library_called : Program
-library_called = over (module_of 1 (CallStat (e 0 (Call (e 1 (NameExpr (codes "math"))) no_exprs)) ∷ []) ((1, UseLibrary) ∷ []) [] ∷ [])
 
 -- `local x = nil`, `x ..= pcall()`
 abbrev pub compound_local : Program

@@ -1,7 +1,7 @@
 //! Runs of further forms of syntax that are computed.
 
-ghost use Rattle.std.specs.Prelude.{◌≡◌, [], ◌∷◌, Some, codes, map};
-ghost use Rattle.luau_values.specs.Value.{Nil, Num, Str, Lit};
+ghost use Rattle.std.specs.Prelude.{◌≡◌, [], ◌∷◌, Some, None, codes, map};
+ghost use Rattle.luau_values.specs.Value.{Nil, Num, Str, Lit, Builtin};
 ghost use Rattle.luau_tree.specs.Tree.{NilExpr, NumberExpr, StrExpr};
 ghost use Rattle.luau_tree.specs.declared.names.Place.TheVariants.{Expr as ExprPlace, Param};
 ghost use Rattle.luau_run.specs.Machine.{One, Turn, Stop, Does, Catches, Done, Reach, Leave};
@@ -18,7 +18,9 @@ pub fn modules_that_return()
     ensures no_turns { gives counted 50 (Stop ∷ []) ≡ Some (Nil ∷ []) }
     ensures break_ends { gives broken_off 50 [] ≡ Some (Num (codes "1") ∷ []) }
     ensures undeclared { gives off_library 50 (One (Num (codes "3")) ∷ []) ≡ Some (Num (codes "3") ∷ []) }
-    ensures absent_field { gives off_table 50 [] ≡ Some (Nil ∷ []) }
+    ensures absent_field { gives (off_table (codes "math") (codes "none")) 50 [] ≡ Some (Nil ∷ []) }
+    ensures declared_field { gives (off_table (codes "table") (codes "freeze")) 50 [] ≡ Some (Builtin (codes "table.freeze") ∷ []) }
+    ensures no_library { gives (off_table (codes "none") (codes "none")) 50 [] ≡ None }
     ensures other_module { gives required 50 [] ≡ Some (Str (codes "x") ∷ []) }
 {}
 

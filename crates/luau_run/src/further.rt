@@ -10,7 +10,7 @@ ghost use Rattle.luau_run.specs.Machine.{One, Says, Fail, Turn, Stop, Does, Done
 ghost use Rattle.luau_run.specs.Examples.{Normal, Failure, Unfinished, outcome, reached};
 ghost use Rattle.luau_run.specs.Run.{run, trace};
 ghost use Rattle.luau_run.specs.Forms.{gives, e, one, caught_failure, exprs_of, name};
-ghost use Rattle.luau_run.specs.Further.{str, repeated, continued, over_table, over_function, two_turns, fresh_cells, counting_from, method_called, compound_field, swapped, expanding, expanding_call, operators, reading_p, writing_p, results_of_pcall, abs_of, global_written, library_element, keyed_items, function_on_field, function_on_method, required_twice, field_of_other, element_of_other_written, call_of_other, turns_of_other, sum_with_other, order_of_kinds, giving, applied, type_of, field_of_string, returned_from_do, frozen_twice, off_named_library, off_bound_library, library_called, compound_local};
+ghost use Rattle.luau_run.specs.Further.{str, repeated, continued, over_table, over_function, two_turns, fresh_cells, counting_from, method_called, compound_field, swapped, expanding, expanding_call, operators, reading_p, writing_p, results_of_pcall, abs_of, global_written, library_element, keyed_items, function_on_field, function_on_method, required_twice, field_of_other, element_of_other_written, call_of_other, turns_of_other, sum_with_other, order_of_kinds, giving, applied, type_of, field_of_string, returned_from_do, frozen_twice, compound_local};
 
 /// Loops: the steps of a turn, what `break` and `continue` do, what an iteration hands over, and that each turn has cells
 /// of its own.
@@ -119,10 +119,6 @@ pub fn operations_on_kinds()
     ensures kind_of_table { gives (type_of (TableExpr no_items)) 50 [] ≡ Some (Str (codes "table") ∷ []) }
     ensures string_field { gives (field_of_string (codes "len")) 50 [] ≡ Some (Builtin (codes "string.len") ∷ []) }
     ensures no_string_field { gives (field_of_string (codes "none")) 50 [] ≡ Some (Nil ∷ []) }
-    ensures off_library { gives off_named_library 50 (One (Str (codes "v")) ∷ []) ≡ Some (Str (codes "v") ∷ []) }
-    ensures declared_in_library { gives (off_bound_library (codes "freeze")) 50 [] ≡ Some (Builtin (codes "table.freeze") ∷ []) }
-    ensures absent_in_library { gives (off_bound_library (codes "none")) 50 [] ≡ Some (Nil ∷ []) }
-    ensures call_of_library { outcome (run library_called 0 50 []) ≡ Failure }
     ensures compound_of_other { outcome (run compound_local 0 50 (Done (Other 1 ∷ []) ∷ One (Str (codes "v")) ∷ [])) ≡ Normal }
     ensures do_block { gives returned_from_do 50 [] ≡ Some (Str (codes "s") ∷ []) }
     ensures freeze_again { gives frozen_twice 50 (Says true ∷ []) ≡ Some (Truth false ∷ []) }

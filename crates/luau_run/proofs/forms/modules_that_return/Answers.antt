@@ -42,3 +42,11 @@ returns-clause-undeclared c = refl
 pub returns-clause-absent_field : goal.returns-clause-absent_field
 unfolding ◌>>=◌ give fail spend step log look change ask catch write_field activate anything acts call_builtin call require values turns stat
 returns-clause-absent_field c = refl
+
+pub returns-clause-declared_field : goal.returns-clause-declared_field
+unfolding ◌>>=◌ give fail spend step log look change ask catch write_field activate anything acts call_builtin call require values turns stat
+returns-clause-declared_field c = refl
+
+pub returns-clause-no_library : goal.returns-clause-no_library
+unfolding ◌>>=◌ give fail spend step log look change ask catch write_field activate anything acts call_builtin call require values turns stat
+returns-clause-no_library c = refl

@@ -79,22 +79,6 @@ pub returns-clause-no_string_field : goal.returns-clause-no_string_field
 unfolding ◌>>=◌ give fail spend step log look change ask catch write_field activate anything acts call_builtin call require values turns stat
 returns-clause-no_string_field c = refl
 
-pub returns-clause-off_library : goal.returns-clause-off_library
-unfolding ◌>>=◌ give fail spend step log look change ask catch write_field activate anything acts call_builtin call require values turns stat
-returns-clause-off_library c = refl
-
-pub returns-clause-declared_in_library : goal.returns-clause-declared_in_library
-unfolding ◌>>=◌ give fail spend step log look change ask catch write_field activate anything acts call_builtin call require values turns stat
-returns-clause-declared_in_library c = refl
-
-pub returns-clause-absent_in_library : goal.returns-clause-absent_in_library
-unfolding ◌>>=◌ give fail spend step log look change ask catch write_field activate anything acts call_builtin call require values turns stat
-returns-clause-absent_in_library c = refl
-
-pub returns-clause-call_of_library : goal.returns-clause-call_of_library
-unfolding ◌>>=◌ give fail spend step log look change ask catch write_field activate anything acts call_builtin call require values turns stat
-returns-clause-call_of_library c = refl
-
 pub returns-clause-compound_of_other : goal.returns-clause-compound_of_other
 unfolding ◌>>=◌ give fail spend step log look change ask catch write_field activate anything acts call_builtin call require values turns stat
 returns-clause-compound_of_other c = refl
