@@ -22,7 +22,8 @@ pub fn runs_go_on()
         → Begins (trace program entry steps tape) (trace program entry (steps + n) (tape ++ more)) }
 {}
 
-/// A run is spent for want of steps or answers alone: over a deeper layer it is the same.
+/// No run is spent for want of depth: over a deeper layer it is the same. A run is spent where steps or answers end,
+/// where an answer doesn't fit, and where it is stuck, as at a name of which its module's reading says nothing.
 #[tactic(auto, using(crate::proofs::GoodLayers::deep_enough))]
 pub fn depth_is_enough()
     ensures { (program : Program) (entry steps : ℕ) (tape : List Answer) (more : ℕ)
