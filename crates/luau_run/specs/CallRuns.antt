@@ -1,7 +1,7 @@
 -- Worked runs of calls, assignments and statements that no loop is in, and of modules.
 use Rattle.std.specs.Prelude.{true, false, if◌then◌else◌, ◌==◌, ◌||◌, [], ◌∷◌, Some, None, codes}
 use Rattle.luau_tree.specs.declared.names.BinOp.TheVariants.{Add, Equal}
-use Rattle.luau_tree.specs.Tree.{Assign, Compound, Do, If, FunctionStat, LocalFunction, TypeAlias, no_arms, more_arms, no_stats, a_block, Expr, NilExpr, Vararg, FunctionExpr, Index, At, Method, Binary, Field, Body, the_body, no_varargs, varargs, no_binds, no_gens, no_type, TypeSyntax, the_type, NilType}
+use Rattle.luau_tree.specs.Tree.{Assign, Compound, Do, If, FunctionStat, LocalFunction, TypeAlias, TypeFunction, no_arms, more_arms, no_stats, a_block, Expr, NilExpr, Vararg, FunctionExpr, Index, At, Method, Binary, Field, Body, the_body, no_varargs, varargs, no_binds, no_gens, no_type, TypeSyntax, the_type, NilType}
 use Rattle.luau_run.specs.Program.{UseLocal, UseGlobal, Program}
 use Rattle.luau_run.specs.Examples.{somewhere}
 use Rattle.luau_run.specs.Pieces.{e, num, str, name, exprs_of, call_of, table, declared, alone, both, block_of, body_of, locals, assign, returning, module_of, over, one_module}
@@ -90,9 +90,10 @@ second_arm = one_module
     (If (more_arms (e 0 NilExpr) no_stats (more_arms (e 1 num) (block_of (returning (e 2 str ∷ []) ∷ [])) no_arms)) (a_block no_stats)
     ∷ returning (e 3 num ∷ []) ∷ []) [] []
 
--- `type T = nil`, `return "s"`
-abbrev pub alias_passed : Program
-alias_passed = one_module (TypeAlias false (codes "T") no_gens nil_type ∷ returning (e 0 str ∷ []) ∷ []) [] []
+-- `type T = nil`, `type function F() end`, `return "s"`
+abbrev pub types_passed : Program
+types_passed = one_module
+    (TypeAlias false (codes "T") no_gens nil_type ∷ TypeFunction false (codes "F") (body_of 0 no_binds []) ∷ returning (e 0 str ∷ []) ∷ []) [] []
 
 -- `return require("s") == require("s")`, where the module that they mean is `return {}`
 abbrev pub required_twice : Program

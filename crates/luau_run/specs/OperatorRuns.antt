@@ -3,7 +3,7 @@ use Rattle.std.specs.Prelude.{ℕ, true, List, [], ◌∷◌, None, codes}
 use Rattle.luau_tree.specs.declared.names.BinOp.{BinOp}
 use Rattle.luau_tree.specs.declared.names.BinOp.TheVariants.{Or, And, Equal}
 use Rattle.luau_tree.specs.declared.names.UnOp.TheVariants.{Not}
-use Rattle.luau_tree.specs.Tree.{LocalFunction, ExprKind, NilExpr, Index, At, Unary, Binary, IfElse, no_choices, more_choices, Interp, Keyed, no_binds, StrExpr}
+use Rattle.luau_tree.specs.Tree.{LocalFunction, ExprKind, NilExpr, Index, At, Unary, Binary, IfElse, no_choices, more_choices, Interp, Keyed, Plain, no_binds, StrExpr}
 use Rattle.luau_run.specs.Program.{Declared, Use, UseLocal, UseBuiltin, UseLibrary, Program}
 use Rattle.luau_run.specs.Pieces.{any_type, pcall, e, num, str, name, library, exprs_of, call_of, table, declared, alone, body_of, locals, returning, module_of, one_module}
 
@@ -36,10 +36,10 @@ interpolated = giving (Interp (codes "a" ∷ codes "b" ∷ [] ∷ []) (exprs_of 
 abbrev pub library_element : Program
 library_element = one_module (returning (e 0 (At (library 1 (codes "math")) (e 2 (StrExpr (codes "abs")))) ∷ []) ∷ []) ((1, UseLibrary) ∷ []) []
 
--- `local t = {["p"] = "s", [1] = 1}`, `return t.p`
+-- `local t = {["p"] = "s", [1] = 1, 1}`, `return t.p`
 abbrev pub keyed_items : Program
 keyed_items = one_module
-    (locals (alone 0) (e 0 (table (Keyed (e 1 (StrExpr (codes "p"))) (e 2 str) ∷ Keyed (e 3 num) (e 4 num) ∷ [])) ∷ [])
+    (locals (alone 0) (e 0 (table (Keyed (e 1 (StrExpr (codes "p"))) (e 2 str) ∷ Keyed (e 3 num) (e 4 num) ∷ Plain (e 7 num) ∷ [])) ∷ [])
     ∷ returning (e 5 (Index (name 6) (codes "p")) ∷ []) ∷ [])
     ((6, UseLocal 0) ∷ []) []
 

@@ -8,7 +8,7 @@ ghost use Rattle.luau_run.specs.Machine.{One, Says, Fail, Reach, Leave};
 ghost use Rattle.luau_run.specs.Examples.{Return, Failure, Unfinished, reached};
 ghost use Rattle.luau_run.specs.Run.{trace};
 ghost use Rattle.luau_run.specs.Pieces.{e, gives, ends, one_more};
-ghost use Rattle.luau_run.specs.CallRuns.{method_called, function_on_field, function_on_method, expanding, not_expanding, nil_type, swapped, compound_field, element_written, global_written, returned_from_do, second_arm, alias_passed, required_twice};
+ghost use Rattle.luau_run.specs.CallRuns.{method_called, function_on_field, function_on_method, expanding, not_expanding, nil_type, swapped, compound_field, element_written, global_written, returned_from_do, second_arm, types_passed, required_twice};
 
 /// What calls give: a method has its base as its first argument, `...` has the arguments past the parameters, and a call
 /// gives all of its values where it stands last and alone, and one elsewhere.
@@ -58,7 +58,7 @@ pub fn steps_of_calls()
     ensures asserted { one_more (expanding (λ call. e 1 (Assert call nil_type))) 10 [] ≡ (Unfinished, Return) }
     ensures requires_twice { one_more required_twice 11 [] ≡ (Unfinished, Return) }
     ensures compound { one_more compound_field 8 (One (Num (codes "2")) ∷ []) ≡ (Unfinished, Return) }
-    ensures alias { one_more alias_passed 2 [] ≡ (Unfinished, Return) }
+    ensures types { one_more types_passed 3 [] ≡ (Unfinished, Return) }
     ensures do_block { one_more returned_from_do 2 [] ≡ (Unfinished, Return) }
     ensures elseif { one_more second_arm 4 [] ≡ (Unfinished, Return) }
 {}

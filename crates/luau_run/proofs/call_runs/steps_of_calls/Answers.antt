@@ -17,7 +17,7 @@ returns c = record {
   asserted = refl;
   requires_twice = refl;
   compound = refl;
-  alias = refl;
+  types = refl;
   do_block = refl;
   elseif = refl;
 }
