@@ -1,5 +1,5 @@
 -- Calls are good parts over good layers.
-use Rattle.std.proofs.Common.{ℕ, suc, pred, ◌+◌, List, [], ◌∷◌, Option, Some, None, refl, slice_get, codes}
+use Rattle.std.proofs.Common.{ℕ, suc, pred, ◌+◌, List, [], ◌∷◌, Option, Some, None, refl, slice_get, codes, drop}
 use Rattle.std.specs.Str.{bytes_eq}
 use Rattle.luau_values.specs.Value.{Value, Nil, Truth, Num, Str, Tab, Lit, Builtin, Other}
 use Rattle.luau_values.proofs.HeapFacts.{later_refl}
@@ -8,7 +8,7 @@ use Rattle.luau_run.specs.Program.{Signature, declaration, ReadModule, Program}
 use Rattle.luau_run.specs.Machine.{Act, Write, Freeze, Make, Calls, Catches, Closure, Part}
 use Rattle.luau_run.specs.Answers.{Aim, ForResults, Freedom, Free, Move, Acts, Ends}
 use Rattle.luau_run.specs.Layer.{Frame, Ending, Falls, Breaks, Continues, Returns, Layer, first}
-use Rattle.luau_run.specs.Calls.{act, acts_from, acts, given_by, type_name, frozen, free_builtin, meaning, declared_call, call_builtin, block, block_rest, after_first, bind_params, reach_params, bind_captured, run_in, kept_args, frame_of, enter, call_closure, call, enter_module, require_from, require}
+use Rattle.luau_run.specs.Calls.{act, acts_from, acts, given_by, type_name, frozen, free_builtin, meaning, declared_call, call_builtin, block, block_rest, bind_params, reach_params, bind_captured, run_in, kept_args, frame_of, enter, call_closure, call, enter_module, require_from, require}
 use Rattle.luau_run.proofs.Good.{Good, good_then, good_taken, ask_takes, good_ask, good_change, good_any, good_give, good_look, good_if, good_log, good_spend, good_fail, good_write, good_catch}
 use Rattle.luau_run.proofs.GoodActivation.{good_activate}
 use Rattle.luau_run.proofs.GoodOperators.{good_table, good_freeze, good_bind, good_new_cell}
@@ -53,7 +53,7 @@ good_params depth frame no_binds args = good_give depth (Some frame.activation) 
 good_params depth frame (more_binds (the_bind name span typ) rest) args =
     good_then depth (Some frame.activation) _ _ _ _ (good_new_cell depth (Some frame.activation) _) (λ cell.
     good_then depth (Some frame.activation) _ _ _ _ (good_bind depth (Some frame.activation) frame.activation _ cell) (λ x.
-    good_params depth frame rest (after_first args)))
+    good_params depth frame rest (drop 1 args)))
 
 good_reaches : (depth : ℕ) (frame : Frame) (function index : ℕ) (params : Binds) (args : List Value)
     → Good depth (Some frame.activation) (reach_params frame function index params args) (reach_params frame function index params args)
@@ -62,7 +62,7 @@ good_reaches depth frame function index (more_binds b rest) args =
     good_then depth (Some frame.activation) _ _ _ _ (good_look depth (Some frame.activation)) (λ store.
     good_then depth (Some frame.activation) _ _ _ _
     (good_if depth (Some frame.activation) _ _ _ _ _ (good_log depth frame.activation frame.module_at _) (good_give depth (Some frame.activation) tt)) (λ x.
-    good_reaches depth frame function (index + 1) rest (after_first args)))
+    good_reaches depth frame function (index + 1) rest (drop 1 args)))
 
 module _ (depth : ℕ) (l m : Layer) (h : GoodLayer depth l m) where
   pub good_call : (runs : Option ℕ) (callee : Value) (args : List Value) → Good (pred depth) runs (l.call callee args) (m.call callee args)

@@ -11,7 +11,7 @@ use Rattle.luau_run.specs.Program.{Use, UseLocal, UseBuiltin, UseLibrary, UseGlo
 use Rattle.luau_run.specs.Machine.{Event, State, Part, ◌>>=◌, step, step_of, log, go_on}
 use Rattle.luau_run.specs.Layer.{Frame, Layer}
 use Rattle.luau_run.specs.Operators.{is_true, binary}
-use Rattle.luau_run.specs.Expressions.{value, all_values, reach, cell_or_spend, local_cell, cell_value, local_value, named, captured_cells, make_closure, is_library, either_value, binary_rest, chosen, keyed_field, item_fields, one, static_require, call_expr, each_value, evaluate, evaluate_or_builtin, values}
+use Rattle.luau_run.specs.Expressions.{value, all_values, reach, cell_or_spend, local_cell, cell_value, local_value, table_or_spend, named, captured_cells, make_closure, is_library, either_value, binary_rest, chosen, keyed_field, item_fields, one, static_require, call_expr, each_value, evaluate, evaluate_or_builtin, values}
 use Rattle.luau_run.proofs.Good.{Good, good_then, good_taken, good_step, good_log, HasTaken, left, good_ask, good_change, good_any, good_give, good_look, good_if, good_spend}
 use Rattle.luau_run.proofs.GoodOperators.{good_table, good_binary, good_unary, good_named_field, good_element}
 use Rattle.luau_run.proofs.GoodLayer.{GoodLayer, good_step_then}
@@ -32,10 +32,14 @@ pub good_local_value : (depth : ℕ) (frame : Frame) (local : ℕ) → Good dept
 good_local_value depth frame local =
     good_then depth (Some frame.activation) _ _ _ _ (good_local_cell depth frame local) (λ cell. good_then depth (Some frame.activation) _ _ _ _ (good_look depth (Some frame.activation)) (λ store. good_cell_value depth (Some frame.activation) _))
 
+good_table_or_spend : (depth : ℕ) (runs : Option ℕ) (address : Option ℕ) → Good depth runs (table_or_spend address) (table_or_spend address)
+good_table_or_spend depth runs None = good_spend depth runs Value
+good_table_or_spend depth runs (Some address) = good_give depth runs _
+
 good_named : (depth : ℕ) (program : Program) (frame : Frame) (name : List ℕ) (u : Option Use) → Good depth (Some frame.activation) (named program frame name u) (named program frame name u)
 good_named depth program frame name (Some (UseLocal local)) = good_local_value depth frame local
 good_named depth program frame name (Some (UseBuiltin path)) = good_give depth (Some frame.activation) _
-good_named depth program frame name (Some UseLibrary) = good_give depth (Some frame.activation) _
+good_named depth program frame name (Some UseLibrary) = good_table_or_spend depth (Some frame.activation) _
 good_named depth program frame name (Some UseGlobal) = good_then depth (Some frame.activation) _ _ _ _ (good_look depth (Some frame.activation)) (λ store. good_ask depth (Some frame.activation) _)
 good_named depth program frame name None = good_spend depth (Some frame.activation) Value
 

@@ -1,5 +1,5 @@
 -- The turns of loops are good parts over good layers.
-use Rattle.std.proofs.Common.{ℕ, zero, suc, pred, ◌≤◌, arith, List, [], ◌∷◌, Option, Some, None}
+use Rattle.std.proofs.Common.{ℕ, zero, suc, pred, ◌≤◌, arith, List, [], ◌∷◌, Option, Some, None, drop}
 use Rattle.luau_values.specs.Value.{Value, is_nil}
 use Rattle.luau_tree.specs.Tree.{Expr, Block, Binds, no_binds, more_binds, the_bind}
 use Rattle.luau_run.specs.Program.{Program}
@@ -7,7 +7,6 @@ use Rattle.luau_run.specs.Machine.{Part}
 use Rattle.luau_run.specs.Answers.{ForTurn, Free}
 use Rattle.luau_run.specs.Layer.{Frame, Ending, Falls, Breaks, Continues, Returns, Loop, WhileLoop, RepeatLoop, NumLoop, FunctionLoop, TableLoop, OtherLoop, Layer, first}
 use Rattle.luau_run.specs.Operators.{is_true}
-use Rattle.luau_run.specs.Calls.{after_first}
 use Rattle.luau_run.specs.Loops.{declare, next_turn, until, turn_with, number_turn, function_turn, turn, turns}
 use Rattle.luau_run.proofs.Good.{Good, good_then, good_taken, good_step, step_takes, good_ask, good_give, good_look, good_if, shallow}
 use Rattle.luau_run.proofs.GoodOperators.{good_new_cell, good_bind}
@@ -18,7 +17,7 @@ use Rattle.luau_run.proofs.GoodExpressions.{good_value}
 pub good_declare : (depth : ℕ) (frame : Frame) (binds : Binds) (values : List Value) → Good depth (Some frame.activation) (declare frame binds values) (declare frame binds values)
 good_declare depth frame no_binds values = good_give depth (Some frame.activation) _
 good_declare depth frame (more_binds (the_bind name span typ) rest) values = good_then depth (Some frame.activation) _ _ _ _ (good_new_cell depth (Some frame.activation) _) (λ cell.
-    good_then depth (Some frame.activation) _ _ _ _ (good_bind depth (Some frame.activation) frame.activation _ cell) (λ x. good_declare depth frame rest (after_first values)))
+    good_then depth (Some frame.activation) _ _ _ _ (good_bind depth (Some frame.activation) frame.activation _ cell) (λ x. good_declare depth frame rest (drop 1 values)))
 
 good_next : (depth : ℕ) (runs : Option ℕ) (p q : Part Ending) (ending : Ending) → Good depth runs p q → Good depth runs (next_turn p ending) (next_turn q ending)
 good_next depth runs p q Falls h = h

@@ -1,5 +1,5 @@
 -- Statements are good parts over good layers.
-use Rattle.std.proofs.Common.{ℕ, suc, not, List, [], ◌∷◌, Option, Some, None}
+use Rattle.std.proofs.Common.{ℕ, suc, not, List, [], ◌∷◌, Option, Some, None, drop}
 use Rattle.std.specs.List.{list_any}
 use Rattle.luau_values.specs.Value.{Value, Nil, Truth, Num, Str, Tab, Lit, Builtin, Other}
 use Rattle.luau_tree.specs.Tree.{Expr, the_expr, Exprs, no_exprs, more_exprs, MaybeExpr, no_expr, an_expr, NilExpr, TrueExpr, FalseExpr, NumberExpr, StrExpr, Vararg, FunctionExpr, NameExpr, Index, At, Call, Method, Paren, Unary, Binary, IfElse, TableExpr, Interp, Block, Stat, the_stat, StatKind, Assign, Compound, CallStat, Do, While, Repeat, If, NumFor, GenFor, FunctionStat, LocalFunction, Local, TypeAlias, TypeFunction, Return, Break, Continue, Arms, no_arms, more_arms, MaybeBlock, no_block, a_block, Body, Bind, the_bind, Binds}
@@ -8,8 +8,7 @@ use Rattle.luau_tree.specs.declared.names.BinOp.{BinOp}
 use Rattle.luau_run.specs.Program.{Program}
 use Rattle.luau_run.specs.Layer.{Frame, Ending, WhileLoop, RepeatLoop, NumLoop, TableLoop, OtherLoop, Layer, first}
 use Rattle.luau_run.specs.Operators.{is_true}
-use Rattle.luau_run.specs.Calls.{after_first}
-use Rattle.luau_run.specs.Statements.{Target, LocalTarget, GlobalTarget, FieldTarget, ElementTarget, target, targets, set_other, set_element, write_to, write_all, read_from, compound, branches, is_wrong, is_number, begin_for, bounds_of, iterate, define, define_local, number_for, execute, stat}
+use Rattle.luau_run.specs.Statements.{Target, LocalTarget, GlobalTarget, FieldTarget, ElementTarget, target, targets, set_other, set_element, write_to, write_all, read_from, compound, branches, is_wrong, is_sure_bound, begin_for, bounds_of, iterate, define, define_local, number_for, execute, stat}
 use Rattle.luau_run.proofs.Good.{Good, good_then, good_taken, good_step, step_takes, good_ask, good_give, good_look, good_if, good_log, good_spend, good_fail}
 use Rattle.luau_run.proofs.GoodOperators.{good_new_cell, good_set_cell, good_bind, good_binary, good_named_field, good_element, good_set_field}
 use Rattle.luau_run.proofs.GoodLayer.{GoodLayer}
@@ -45,7 +44,7 @@ good_write_to depth frame (ElementTarget off base key) written = good_set_elemen
 
 good_write_all : (depth : ℕ) (frame : Frame) (ts : List Target) (values : List Value) → Good depth (Some frame.activation) (write_all frame ts values) (write_all frame ts values)
 good_write_all depth frame [] values = good_give depth (Some frame.activation) _
-good_write_all depth frame (t ∷ ts) values = good_then depth (Some frame.activation) _ _ _ _ (good_write_to depth frame t (first values)) (λ x. good_write_all depth frame ts (after_first values))
+good_write_all depth frame (t ∷ ts) values = good_then depth (Some frame.activation) _ _ _ _ (good_write_to depth frame t (first values)) (λ x. good_write_all depth frame ts (drop 1 values))
 
 good_read : (depth : ℕ) (program : Program) (frame : Frame) (t : Target) → Good depth (Some frame.activation) (read_from program frame t) (read_from program frame t)
 good_read depth program frame (LocalTarget local) = good_local_value depth frame local
@@ -55,7 +54,7 @@ good_read depth program frame (ElementTarget off base key) = good_element depth 
 
 good_begin : (depth : ℕ) (runs : Option ℕ) (bounds : List Value) → Good depth runs (begin_for bounds) (begin_for bounds)
 good_begin depth runs bounds = good_if depth runs (list_any is_wrong bounds) _ _ _ _ (good_fail depth runs (Unit {0}))
-    (good_if depth runs (list_any (λ v. not (is_number v)) bounds) _ _ _ _ (good_ask depth runs _) (good_give depth runs tt))
+    (good_if depth runs (list_any (λ v. not (is_sure_bound v)) bounds) _ _ _ _ (good_ask depth runs _) (good_give depth runs tt))
 
 good_define_local : (depth : ℕ) (frame : Frame) (name : Bind) (code : Body) → Good depth (Some frame.activation) (define_local frame name code) (define_local frame name code)
 good_define_local depth frame (the_bind name span typ) code = good_then depth (Some frame.activation) _ _ _ _ (good_new_cell depth (Some frame.activation) Nil) (λ cell.
@@ -132,7 +131,7 @@ module _ (depth : ℕ) (l m : Layer) (h : GoodLayer depth l m) where
   good_execute program frame (Repeat body cond) = h.turns frame (RepeatLoop body cond)
   good_execute program frame (If arms last) = good_branches frame arms last
   good_execute program frame (NumFor bind from to by body) = good_number_for frame bind from to by body
-  good_execute program frame (GenFor binds values body) = good_then depth (Some frame.activation) _ _ _ _ (good_all depth l m h frame values) (λ vs. good_iterate frame binds body (after_first vs) (first vs))
+  good_execute program frame (GenFor binds values body) = good_then depth (Some frame.activation) _ _ _ _ (good_all depth l m h frame values) (λ vs. good_iterate frame binds body (drop 1 vs) (first vs))
   good_execute program frame (FunctionStat path method code) = good_define program frame path method code
   good_execute program frame (LocalFunction name code) = good_define_local depth frame name code
   good_execute program frame (Local binds values) = good_then depth (Some frame.activation) _ _ _ _ (good_all depth l m h frame values) (λ vs. good_then depth (Some frame.activation) _ _ _ _ (good_declare depth frame binds vs) (λ x. good_give depth (Some frame.activation) _))

@@ -9,4 +9,5 @@ pub mod GoodLoops
 pub mod GoodStatements
 pub mod GoodLayers
 pub mod CallFacts
+pub mod QuietFacts
 pub mod ExampleFacts

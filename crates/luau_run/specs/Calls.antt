@@ -1,5 +1,6 @@
 -- Calls: of closures, of builtins and of what is `Other`, and the run of a module that is required.
-use Rattle.std.specs.Prelude.{ℕ, ◌+◌, not, ◌&&◌, ◌==◌, if◌then◌else◌, List, [], ◌∷◌, ◌++◌, length, Option, Some, None, codes, slice_get}
+use Rattle.std.specs.Prelude.{ℕ, ◌+◌, not, ◌&&◌, ◌==◌, if◌then◌else◌, List, [], ◌∷◌, ◌++◌, length, Option, Some, None, codes, slice_get, drop}
+use Rattle.std.specs.Option.{option_map}
 use Rattle.std.specs.List.{find}
 use Rattle.std.specs.Str.{bytes_eq}
 use Rattle.luau_values.specs.Value.{Value, Nil, Truth, Num, Str, Tab, Lit, Builtin, Other}
@@ -105,18 +106,13 @@ abbrev pub returned : Ending → List Value
 returned (Returns values) = values
 returned _ = []
 
--- the values after the first
-abbrev pub after_first : List Value → List Value
-after_first [] = []
-after_first (v ∷ values) = values
-
 -- each parameter gets a cell with its argument, or nil
 abbrev pub bind_params : Frame → Binds → List Value → Part (Unit {0})
 bind_params frame no_binds args = give tt
 bind_params frame (more_binds (the_bind name span typ) rest) args = do
   cell ← new_cell (first args)
   bind_local frame.activation (frame.reading.local_at span.start) cell
-  bind_params frame rest (after_first args)
+  bind_params frame rest (drop 1 args)
 
 -- the place of each parameter whose argument is in its annotation is reached
 abbrev pub reach_params : Frame → (function index : ℕ) → Binds → List Value → Part (Unit {0})
@@ -125,7 +121,7 @@ reach_params frame function index (more_binds b rest) args = do
   store ← look
   if frame.reading.annotated function index store.heap (first args)
       then log (Reach frame.activation frame.module_at (Param (record { 0 = function }) index)) else give tt
-  reach_params frame function (index + 1) rest (after_first args)
+  reach_params frame function (index + 1) rest (drop 1 args)
 
 -- the captured locals stand for the cells that the closure has
 abbrev pub bind_captured : ℕ → List (ℕ × ℕ) → Part (Unit {0})
@@ -136,7 +132,7 @@ bind_captured activation (c ∷ cells) = bind_local activation c.0 c.1 >> bind_c
 abbrev pub further_args : Varargs → Binds → List Value → List Value
 further_args no_varargs params args = []
 further_args (varargs t) no_binds args = args
-further_args (varargs t) (more_binds b rest) args = further_args (varargs t) rest (after_first args)
+further_args (varargs t) (more_binds b rest) args = further_args (varargs t) rest (drop 1 args)
 
 -- the frame of an activation of a body of a module, with further arguments
 abbrev pub frame_of : (module_at : ℕ) → ReadModule → (further : List Value) → (activation : ℕ) → Frame
@@ -175,12 +171,11 @@ call program layer (Builtin path) args = call_builtin program layer path args
 call program layer (Other number) args = layer.acts Free ForResults >>= (λ results. give (results_or_none results))
 call program layer _ args = fail
 
--- the value of a loaded module
+-- the value of a loaded module: the first that was kept
 abbrev pub loaded_value : List (ℕ × Value) → ℕ → Option Value
-loaded_value [] at = None
-loaded_value (l ∷ loaded) at = if l.0 == at then Some l.1 else loaded_value loaded at
+loaded_value loaded at = option_map (λ l. l.1) (find (λ l. l.0 == at) loaded)
 
--- the value of a module is kept unless there is one by now
+-- the value of a module is kept behind those that are there by now; so it counts unless one of the same module is
 abbrev pub keep_loaded : ℕ → Value → List (ℕ × Value) → List (ℕ × Value)
 keep_loaded at value loaded = loaded ++ (at, value) ∷ []
 

@@ -10,16 +10,16 @@ use Rattle.luau_run.specs.Machine.{Event, Reach, Answer, Ran, Gave, Failed, Spen
 use Rattle.luau_run.specs.Layer.{Ending, Falls, Breaks, Continues, Returns}
 use Rattle.luau_run.specs.Run.{run, end_of}
 
--- whether a value is a number
-abbrev pub a_number : Kind
-a_number heap (Num text) = true
-a_number heap _ = false
+-- the type of numbers
+abbrev pub number_type : Kind
+number_type heap (Num text) = true
+number_type heap _ = false
 
 -- `@checked @quiet declare function math.abs(number): number`
 abbrev pub abs : Declared
 abs = record {
   path = codes "math.abs";
-  signature = record { params = a_number ∷ []; rest = None; results = a_number ∷ []; more = None; checked = true; quiet = true };
+  signature = record { params = number_type ∷ []; rest = None; results = number_type ∷ []; more = None; checked = true; quiet = true };
 }
 
 abbrev pub somewhere : Span

@@ -1,5 +1,7 @@
 -- What the forms of expressions do, over the layer below.
-use Rattle.std.specs.Prelude.{ℕ, ◌+◌, Bool, true, false, not, ◌==◌, ◌&&◌, if◌then◌else◌, List, [], ◌∷◌, ◌++◌, Option, Some, None, slice_get}
+use Rattle.std.specs.Prelude.{ℕ, Bool, true, false, not, ◌==◌, ◌&&◌, if◌then◌else◌, List, [], ◌∷◌, ◌++◌, Option, Some, None, slice_get}
+use Rattle.std.specs.Option.{option_map}
+use Rattle.std.specs.List.{find, position}
 use Rattle.std.specs.Str.{bytes_eq}
 use Rattle.luau_values.specs.Value.{Value, Nil, Truth, Num, Str, Tab, Lit, Builtin}
 use Rattle.luau_values.specs.Heap.{Field, libraries, written}
@@ -33,9 +35,8 @@ reach frame id = step >> log (Reach frame.activation frame.module_at (ExprPlace 
 
 -- the newest cell of a local of an activation
 abbrev pub cell_of : List Binding → (activation local : ℕ) → Option ℕ
-cell_of [] activation local = None
-cell_of (b ∷ bindings) activation local =
-    if (b.activation == activation) && (b.local == local) then Some b.cell else cell_of bindings activation local
+cell_of bindings activation local =
+    option_map (λ b. b.cell) (find (λ b. (b.activation == activation) && (b.local == local)) bindings)
 
 -- the cell of a local, without which a run is spent
 abbrev pub cell_or_spend : Option ℕ → Part ℕ
@@ -58,16 +59,16 @@ local_value frame local = do
   store ← look
   cell_value (slice_get store.cells cell)
 
--- the position of a name in a list
-abbrev pub position_of : List ℕ → List (List ℕ) → ℕ
-position_of name [] = 0
-position_of name (n ∷ names) = if bytes_eq n name then 0 else position_of name names + 1
+-- the table of a library, at the library's position, without which a run is spent
+abbrev pub table_or_spend : Option ℕ → Part Value
+table_or_spend None = spend
+table_or_spend (Some address) = give (Tab address)
 
 -- what a name stands for
 abbrev pub named : Program → Frame → List ℕ → Option Use → Part Value
 named program frame name (Some (UseLocal local)) = local_value frame local
 named program frame name (Some (UseBuiltin path)) = give (Builtin path)
-named program frame name (Some UseLibrary) = give (Tab (position_of name (libraries (paths program))))
+named program frame name (Some UseLibrary) = table_or_spend (position (bytes_eq name) (libraries (paths program)))
 named program frame name (Some UseGlobal) = look >>= (λ store. ask (a_value program store))
 named program frame name None = spend
 

@@ -11,4 +11,9 @@ pub mod Run
 pub mod Certain
 pub mod After
 pub mod Examples
+pub mod Pieces
 pub mod Forms
+pub mod LoopRuns
+pub mod CallRuns
+pub mod ActRuns
+pub mod OperatorRuns

@@ -1,5 +1,5 @@
 -- The turns of loops, over the layer below. A turn takes a step before anything else.
-use Rattle.std.specs.Prelude.{ℕ, if◌then◌else◌, List, [], ◌∷◌, Option, Some, None}
+use Rattle.std.specs.Prelude.{ℕ, if◌then◌else◌, List, [], ◌∷◌, Option, Some, None, drop}
 use Rattle.luau_values.specs.Value.{Value, is_nil}
 use Rattle.luau_tree.specs.Tree.{Expr, Block, Binds, no_binds, more_binds, the_bind}
 use Rattle.luau_run.specs.Program.{Program}
@@ -7,7 +7,7 @@ use Rattle.luau_run.specs.Machine.{Part, ◌>>=◌, ◌>>◌, give, step, look, 
 use Rattle.luau_run.specs.Answers.{a_number_turn, a_turn, ForTurn, Free}
 use Rattle.luau_run.specs.Layer.{Frame, Ending, Falls, Breaks, Returns, Loop, WhileLoop, RepeatLoop, NumLoop, FunctionLoop, TableLoop, OtherLoop, Layer, first}
 use Rattle.luau_run.specs.Operators.{is_true}
-use Rattle.luau_run.specs.Calls.{block, after_first}
+use Rattle.luau_run.specs.Calls.{block}
 use Rattle.luau_run.specs.Expressions.{value}
 
 -- new cells for the names of a list, with values or nil
@@ -16,7 +16,7 @@ declare frame no_binds values = give tt
 declare frame (more_binds (the_bind name span typ) rest) values = do
   cell ← new_cell (first values)
   bind_local frame.activation (frame.reading.local_at span.start) cell
-  declare frame rest (after_first values)
+  declare frame rest (drop 1 values)
 
 -- after a turn's body: a break ends the loop, a return ends the body around, and else the loop goes on
 abbrev pub next_turn : Part Ending → Ending → Part Ending

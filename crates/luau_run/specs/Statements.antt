@@ -1,5 +1,5 @@
 -- What the forms of statements do, over the layer below.
-use Rattle.std.specs.Prelude.{ℕ, Bool, true, false, not, if◌then◌else◌, List, [], ◌∷◌, Option, Some, None}
+use Rattle.std.specs.Prelude.{ℕ, Bool, true, false, not, if◌then◌else◌, List, [], ◌∷◌, Option, Some, None, drop}
 use Rattle.std.specs.List.{list_any}
 use Rattle.luau_values.specs.Value.{Value, Nil, Str, Tab, Lit, Builtin, Other}
 use Rattle.luau_values.specs.Heap.{is_frozen}
@@ -11,7 +11,7 @@ use Rattle.luau_run.specs.Machine.{Reach, Part, ◌>>=◌, ◌>>◌, give, fail,
 use Rattle.luau_run.specs.Answers.{yes_or_fail, a_value}
 use Rattle.luau_run.specs.Layer.{Frame, Ending, Falls, Breaks, Continues, Returns, WhileLoop, RepeatLoop, NumLoop, FunctionLoop, TableLoop, OtherLoop, Layer, first}
 use Rattle.luau_run.specs.Operators.{is_true, binary, named_field, element, set_field, Sort, NumberSort, WrongSort, sort}
-use Rattle.luau_run.specs.Calls.{block, after_first}
+use Rattle.luau_run.specs.Calls.{block}
 use Rattle.luau_run.specs.Expressions.{is_library, value, all_values, local_cell, local_value, make_closure}
 use Rattle.luau_run.specs.Loops.{declare}
 
@@ -70,7 +70,7 @@ write_to frame (ElementTarget off base key) written = set_element key written ba
 -- the writes of an assignment, from the left
 abbrev pub write_all : Frame → List Target → List Value → Part (Unit {0})
 write_all frame [] values = give tt
-write_all frame (t ∷ ts) values = write_to frame t (first values) >> write_all frame ts (after_first values)
+write_all frame (t ∷ ts) values = write_to frame t (first values) >> write_all frame ts (drop 1 values)
 
 -- what a target of a compound assignment holds
 abbrev pub read_from : Program → Frame → Target → Part Value
@@ -116,16 +116,16 @@ abbrev pub is_number_sort : Sort → Bool
 is_number_sort NumberSort = true
 is_number_sort _ = false
 
--- whether a value is a number
-abbrev pub is_number : Value → Bool
-is_number v = is_number_sort (sort v)
+-- whether a value is a bound that doesn't fail
+abbrev pub is_sure_bound : Value → Bool
+is_sure_bound v = is_number_sort (sort v)
 
 -- a numeric `for` begins: a bound that is nil, a boolean, a function or a table fails; one that is a string or
 -- something else may fail
 abbrev pub begin_for : List Value → Part (Unit {0})
 begin_for bounds =
     if list_any is_wrong bounds then fail
-    else (if list_any (λ v. not (is_number v)) bounds then ask yes_or_fail else give tt)
+    else (if list_any (λ v. not (is_sure_bound v)) bounds then ask yes_or_fail else give tt)
 
 -- the bound that may be written
 abbrev pub bounds_of : Layer → Frame → MaybeExpr → Part (List Value)
@@ -135,9 +135,9 @@ bounds_of layer frame (an_expr e) = value layer frame e >>= (λ v. give (v ∷ [
 -- an iteration begins, by its first value
 abbrev pub iterate : Layer → Frame → Binds → Block → List Value → Value → Part Ending
 iterate layer frame binds body rest (Lit home function cells) =
-    layer.turns frame (FunctionLoop (Lit home function cells) (first rest) (first (after_first rest)) binds body)
+    layer.turns frame (FunctionLoop (Lit home function cells) (first rest) (first (drop 1 rest)) binds body)
 iterate layer frame binds body rest (Builtin path) =
-    layer.turns frame (FunctionLoop (Builtin path) (first rest) (first (after_first rest)) binds body)
+    layer.turns frame (FunctionLoop (Builtin path) (first rest) (first (drop 1 rest)) binds body)
 iterate layer frame binds body rest (Tab address) = layer.turns frame (TableLoop binds body)
 iterate layer frame binds body rest (Other number) = layer.turns frame (OtherLoop binds body)
 iterate layer frame binds body rest _ = fail
@@ -189,7 +189,7 @@ execute program layer frame (If arms last) = branches layer frame arms last
 execute program layer frame (NumFor bind from to by body) = number_for layer frame bind from to by body
 execute program layer frame (GenFor binds values body) = do
   vs ← all_values layer frame values
-  iterate layer frame binds body (after_first vs) (first vs)
+  iterate layer frame binds body (drop 1 vs) (first vs)
 execute program layer frame (FunctionStat path method code) = define program layer frame path method code
 execute program layer frame (LocalFunction name code) = define_local frame name code
 execute program layer frame (Local binds values) = do

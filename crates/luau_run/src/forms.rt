@@ -1,13 +1,14 @@
 //! Runs of further forms of syntax that are computed.
 
-ghost use Rattle.std.specs.Prelude.{◌≡◌, [], ◌∷◌, Some, codes, map};
-ghost use Rattle.luau_values.specs.Value.{Nil, Num, Str, Lit};
+ghost use Rattle.std.specs.Prelude.{◌≡◌, [], ◌∷◌, Some, None, codes, map};
+ghost use Rattle.luau_values.specs.Value.{Nil, Num, Str, Lit, Builtin};
 ghost use Rattle.luau_tree.specs.Tree.{NilExpr, NumberExpr, StrExpr};
 ghost use Rattle.luau_tree.specs.declared.names.Place.TheVariants.{Expr as ExprPlace, Param};
 ghost use Rattle.luau_run.specs.Machine.{One, Turn, Stop, Does, Catches, Done, Reach, Leave};
-ghost use Rattle.luau_run.specs.Examples.{Failure, outcome};
-ghost use Rattle.luau_run.specs.Run.{run, trace};
-ghost use Rattle.luau_run.specs.Forms.{gives, assigned_by_closure, field_written, counted, broken_off, required, caught_failure, failing, annotated_call, off_library, off_table};
+ghost use Rattle.luau_run.specs.Examples.{Failure, reached};
+ghost use Rattle.luau_run.specs.Run.{trace};
+ghost use Rattle.luau_run.specs.Pieces.{gives, ends};
+ghost use Rattle.luau_run.specs.Forms.{assigned_by_closure, field_written, counted, broken_off, required, caught_failure, failing, annotated_call, off_library, off_table};
 
 /// What modules return, with enough steps and the answers that they ask for.
 pub fn modules_that_return()
@@ -18,29 +19,31 @@ pub fn modules_that_return()
     ensures no_turns { gives counted 50 (Stop ∷ []) ≡ Some (Nil ∷ []) }
     ensures break_ends { gives broken_off 50 [] ≡ Some (Num (codes "1") ∷ []) }
     ensures undeclared { gives off_library 50 (One (Num (codes "3")) ∷ []) ≡ Some (Num (codes "3") ∷ []) }
-    ensures absent_field { gives off_table 50 [] ≡ Some (Nil ∷ []) }
-    ensures other_module { gives required 50 [] ≡ Some (Str (codes "x") ∷ []) }
+    ensures absent_field { gives (off_table (codes "math") (codes "none")) 50 [] ≡ Some (Nil ∷ []) }
+    ensures declared_field { gives (off_table (codes "table") (codes "freeze")) 50 [] ≡ Some (Builtin (codes "table.freeze") ∷ []) }
+    ensures no_library { gives (off_table (codes "none") (codes "none")) 50 [] ≡ None }
+    ensures other_module { gives required 50 [] ≡ Some (Str (codes "s") ∷ []) }
 {}
 
 /// A failure that `pcall` catches: the function's activation reaches its call and isn't left; the module's own is.
 pub fn failure_that_is_caught()
     ensures { trace caught_failure 0 50 (Does (Catches (Lit 1 0 []) []) ∷ Done [] ∷ [])
-        ≡ Reach 0 0 (ExprPlace (record { 0 = 0 })) ∷ Reach 0 0 (ExprPlace (record { 0 = 1 })) ∷ Reach 0 0 (ExprPlace (record { 0 = 2 }))
+        ≡ reached 0 ∷ reached 1 ∷ reached 2
         ∷ Reach 1 0 (ExprPlace (record { 0 = 3 })) ∷ Reach 1 0 (ExprPlace (record { 0 = 4 })) ∷ Reach 1 0 (ExprPlace (record { 0 = 6 }))
         ∷ Leave 0 ∷ [] }
 {}
 
 /// What fails for certain asks for no answer.
 pub fn modules_that_fail()
-    ensures { map (λ program. outcome (run program 0 50 [])) failing ≡ Failure ∷ Failure ∷ Failure ∷ Failure ∷ Failure ∷ Failure ∷ Failure ∷ [] }
+    ensures { map (λ program. ends program 50 []) failing ≡ Failure ∷ Failure ∷ Failure ∷ Failure ∷ Failure ∷ Failure ∷ Failure ∷ [] }
 {}
 
 /// A parameter's place is reached, after the call's arguments and before the body, where the argument is in its annotation.
 pub fn parameter_that_is_reached()
     ensures number { trace (annotated_call (NumberExpr (codes "1"))) 0 50 []
-        ≡ Reach 0 0 (ExprPlace (record { 0 = 0 })) ∷ Reach 0 0 (ExprPlace (record { 0 = 1 })) ∷ Reach 0 0 (ExprPlace (record { 0 = 2 }))
+        ≡ reached 0 ∷ reached 1 ∷ reached 2
         ∷ Reach 1 0 (Param (record { 0 = 0 }) 0) ∷ Leave 1 ∷ Leave 0 ∷ [] }
     ensures string { trace (annotated_call (StrExpr (codes "s"))) 0 50 []
-        ≡ Reach 0 0 (ExprPlace (record { 0 = 0 })) ∷ Reach 0 0 (ExprPlace (record { 0 = 1 })) ∷ Reach 0 0 (ExprPlace (record { 0 = 2 }))
+        ≡ reached 0 ∷ reached 1 ∷ reached 2
         ∷ Leave 1 ∷ Leave 0 ∷ [] }
 {}

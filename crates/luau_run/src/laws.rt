@@ -1,9 +1,9 @@
 //! What holds of all runs. Each law is the contract of a function that does nothing.
 
-ghost use Rattle.std.specs.Prelude.{◌≡◌, ℕ, suc, ◌+◌, ◌<◌, List, ◌∷◌, ◌++◌, length, Some, None, IsTrue, IsFalse, slice_get};
-ghost use Rattle.luau_values.specs.Value.{Value};
+ghost use Rattle.std.specs.Prelude.{◌≡◌, ◌≢◌, ℕ, suc, ◌+◌, ◌<◌, List, ◌∷◌, ◌++◌, length, Some, None, IsTrue, IsFalse, slice_get, codes};
+ghost use Rattle.luau_values.specs.Value.{Value, Builtin};
 ghost use Rattle.luau_values.specs.Heap.{start_heap};
-ghost use Rattle.luau_values.specs.Later.{Later};
+ghost use Rattle.luau_values.specs.Later.{Later, Extends};
 ghost use Rattle.luau_tree.specs.Tree.{Expr, Stat};
 ghost use Rattle.luau_run.specs.Program.{Program, Signature, declaration, takes, paths};
 ghost use Rattle.luau_run.specs.Machine.{Answer, State, Failed, Spent, Reply, Unfit, ask};
@@ -22,7 +22,8 @@ pub fn runs_go_on()
         → Begins (trace program entry steps tape) (trace program entry (steps + n) (tape ++ more)) }
 {}
 
-/// A run is spent for want of steps or answers alone: over a deeper layer it is the same.
+/// No run is spent for want of depth: over a deeper layer it is the same. A run is spent where steps or answers end,
+/// where an answer doesn't fit, and where it is stuck, as at a name of which its module's reading says nothing.
 #[tactic(auto, using(crate::proofs::GoodLayers::deep_enough))]
 pub fn depth_is_enough()
     ensures { (program : Program) (entry steps : ℕ) (tape : List Answer) (more : ℕ)
@@ -61,6 +62,15 @@ pub fn checked_call_fails()
     ensures { (program : Program) (layer : Layer) (path : List ℕ) (signature : Signature) (args : List Value) (state : State)
         → declaration program.builtins path ≡ Some signature → IsTrue signature.checked → IsFalse (takes signature state.store.heap args)
         → call_builtin program layer path args state ≡ Failed state }
+{}
+
+/// A quiet builtin changes no table that was there: its call only adds tables. `table.freeze` alone freezes one, since it
+/// has an exact meaning, whatever its mark.
+#[tactic(auto, using(crate::proofs::QuietFacts::quiet_extends))]
+pub fn quiet_call_extends()
+    ensures { (program : Program) (depth : ℕ) (path : List ℕ) (signature : Signature) (args : List Value) (s : State)
+        → declaration program.builtins path ≡ Some signature → IsTrue signature.quiet → path ≢ codes "table.freeze"
+        → Extends s.store.heap (end_of ((layer_of program depth).call (Builtin path) args s)).store.heap }
 {}
 
 /// An answer that doesn't fit spends the run: it is no failure.

@@ -1,10 +1,13 @@
 -- Facts on heaps, by induction on their tables.
-use Rattle.std.proofs.Common.{◌≡◌, ◌≢◌, ℕ, zero, suc, ◌<◌, ◌≤◌, Bool, true, false, List, [], ◌∷◌, length, slice_get, IsTrue, IsFalse, Option, Some, refl, sym, ◌∙◌, ap, arith, true≢false}
+use Rattle.std.proofs.Common.{◌≡◌, ◌≢◌, ℕ, zero, suc, ◌<◌, ◌≤◌, Bool, true, false, not, List, [], ◌∷◌, length, slice_get, IsTrue, IsFalse, Option, Some, refl, sym, ◌∙◌, ap, arith, true≢false}
 use Rattle.std.specs.Option.{option_map_or}
+use Rattle.std.specs.List.{All, AllPairs}
 use Rattle.std.specs.Str.{bytes_eq}
 use Rattle.std.proofs.lemmas.Slice.Eq.{bytes_eq-Decides}
+use Rattle.std.proofs.lemmas.List.Elements.{All-filter, filter_passes}
+use Rattle.std.proofs.lemmas.List.Kept.{AllPairs-filter}
 use Rattle.luau_values.specs.Value.{Value, Nil, Truth, Num, Str, Tab, Lit, Builtin, Other, is_nil}
-use Rattle.luau_values.specs.Heap.{Field, Table, Heap, value_of, without, written, is_frozen, field_of, changed, with_table, with_field, with_frozen}
+use Rattle.luau_values.specs.Heap.{Field, Table, AreFields, Heap, value_of, without, written, is_frozen, field_of, changed, with_table, with_field, with_frozen}
 use Rattle.luau_values.specs.Later.{Becomes, Later, Extends}
 
 pub later_refl : (h : Heap) → Later h h
@@ -48,6 +51,13 @@ table_later (t ∷ h) fields = (λ z. refl, table_later h fields)
 pub extends_refl : (h : Heap) → Extends h h
 extends_refl [] = tt
 extends_refl (t ∷ h) = (refl, extends_refl h)
+
+-- the tables that were there stay
+pub extends_keeps : (h g : Heap) (a : ℕ) (t : Table) → Extends h g → slice_get h a ≡ Some t → slice_get g a ≡ Some t
+extends_keeps [] g a t e k = cc
+extends_keeps (y ∷ h) [] a t e k = absurd e
+extends_keeps (y ∷ h) (u ∷ g) zero t e k = ap Some e.0 ∙ k
+extends_keeps (y ∷ h) (u ∷ g) (suc a) t e k = extends_keeps h g a t e.1 k
 
 pub extends_later : (h g : Heap) → Extends h g → Later h g
 extends_later [] g e = tt
@@ -132,3 +142,55 @@ elsewhere f (t ∷ h) (suc a) (suc b) ne = elsewhere f h a b (λ e. ne (ap suc e
 
 pub write_elsewhere : (h : Heap) (a b : ℕ) (name : List ℕ) (value : Value) → a ≢ b → slice_get (with_field a name value h) b ≡ slice_get h b
 write_elsewhere h a b name value ne = elsewhere _ h a b ne
+
+pub new_table : (h : Heap) (fields : List Field) → slice_get (with_table fields h) (length h) ≡ Some (record { frozen = false; fields = fields })
+new_table [] fields = refl
+new_table (t ∷ h) fields = new_table h fields
+
+pub freeze_freezes : (h : Heap) (a : ℕ) → a < length h → is_frozen (with_frozen a h) a ≡ true
+freeze_freezes [] a l = absurd (omega arith)
+freeze_freezes (t ∷ h) zero l = refl
+freeze_freezes (t ∷ h) (suc a) l = freeze_freezes h a (omega arith)
+
+pub freeze_reads : (h : Heap) (a b : ℕ) (name : List ℕ) → field_of (with_frozen a h) b name ≡ field_of h b name
+freeze_reads [] a b name = refl
+freeze_reads (t ∷ h) zero zero name = refl
+freeze_reads (t ∷ h) zero (suc b) name = refl
+freeze_reads (t ∷ h) (suc a) zero name = refl
+freeze_reads (t ∷ h) (suc a) (suc b) name = freeze_reads h a b name
+
+pub freeze_elsewhere : (h : Heap) (a b : ℕ) → a ≢ b → slice_get (with_frozen a h) b ≡ slice_get h b
+freeze_elsewhere h a b ne = elsewhere _ h a b ne
+
+all_cons : {X : Type 0} (P : X → Type 0) (x : X) (xs : List X) → P x → All P xs → All P (x ∷ xs)
+all_cons P x xs p q zero d l = p
+all_cons P x xs p q (suc k) d l = q k d (omega arith)
+
+pairs_cons : {X : Type 0} (R : X → X → Type 0) (x : X) (xs : List X) → All (R x) xs → AllPairs R xs → AllPairs R (x ∷ xs)
+pairs_cons R x xs a p zero zero d l m = absurd (omega arith)
+pairs_cons R x xs a p zero (suc j) d l m = a j d (omega arith)
+pairs_cons R x xs a p (suc i) zero d l m = absurd (omega arith)
+pairs_cons R x xs a p (suc i) (suc j) d l m = p i j d (omega arith) (omega arith)
+
+pub no_fields : AreFields []
+no_fields = (λ i j d l m. absurd (omega arith), λ k d l. absurd (omega arith))
+
+fewer_fields : (name : List ℕ) (fields : List Field) → AreFields fields → AreFields (without name fields)
+fewer_fields name fields are =
+    (AllPairs-filter (λ f g. f.name ≢ g.name) _ fields are.0, All-filter _ (λ f. IsFalse (is_nil f.value)) fields are.1)
+
+-- the fields without one have other names
+other_names : (name : List ℕ) (fields : List Field) → All (λ g. name ≢ g.name) (without name fields)
+other_names name fields k d l =
+    λ e. absurd (true≢false (sym (filter_passes (λ f. not (bytes_eq f.name name)) fields k d l) ∙ ap not (same_name _ name (sym e))))
+
+written_fields : (name : List ℕ) (value : Value) (fields : List Field) (b : Bool) → is_nil value ≡ b → AreFields fields → AreFields (written name value fields)
+written_fields name value fields true e are = rw e (fewer_fields name fields are)
+written_fields name value fields false e are =
+    rw e (
+      pairs_cons (λ f g. f.name ≢ g.name) _ _ (other_names name fields) (fewer_fields name fields are).0,
+      all_cons (λ f. IsFalse (is_nil f.value)) _ _ e (fewer_fields name fields are).1,
+    )
+
+pub write_keeps_fields : (name : List ℕ) (value : Value) (fields : List Field) → AreFields fields → AreFields (written name value fields)
+write_keeps_fields name value fields are = written_fields name value fields (is_nil value) refl are

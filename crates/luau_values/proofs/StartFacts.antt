@@ -1,9 +1,10 @@
 -- Facts on the heap at the start of a run.
-use Rattle.std.proofs.Common.{◌≡◌, ◌≢◌, ℕ, zero, suc, ◌<◌, Bool, true, false, ◌==◌, List, [], ◌∷◌, ◌++◌, map, length, slice_get, Option, Some, None, refl, sym, ◌∙◌, ap, subst, arith, true≢false, append_assoc, if◌then◌else◌}
-use Rattle.std.specs.List.{list_any}
+use Rattle.std.proofs.Common.{◌≡◌, ◌≢◌, ℕ, zero, suc, ◌<◌, Bool, true, false, ◌==◌, List, [], ◌∷◌, ◌++◌, map, length, drop, slice_get, Option, Some, None, refl, sym, ◌∙◌, ap, subst, arith, true≢false, append_assoc, if◌then◌else◌}
+use Rattle.std.specs.List.{list_any, starts_with}
 use Rattle.std.specs.Str.{bytes_eq}
-use Rattle.std.proofs.lemmas.Slice.Eq.{bytes_eq-Decides}
-use Rattle.std.proofs.lemmas.Bool.{eq-eqb, eqb-true}
+use Rattle.std.proofs.Math.Seq.{drop-append_seam}
+use Rattle.std.proofs.lemmas.Slice.Eq.{bytes_eq-Decides, starts_is}
+use Rattle.std.proofs.lemmas.Bool.Decides.{Decides-eqb}
 use Rattle.luau_values.specs.Value.{Value, Nil, Builtin}
 use Rattle.luau_values.specs.Heap.{Field, Table, value_of, is_frozen, field_of, after_prefix, library_fields, libraries, start_heap}
 use Rattle.luau_values.proofs.HeapFacts.{same_name, other_name}
@@ -24,20 +25,21 @@ map_length : (f : List ℕ → Table) (libs : List (List ℕ)) → length (map f
 map_length f [] = refl
 map_length f (x ∷ libs) = ap suc (map_length f libs)
 
-follows_own : (p t : List ℕ) → after_prefix p (p ++ t) ≡ Some t
-follows_own [] t = refl
-follows_own (x ∷ p) t = rw (eq-eqb x x refl) (follows_own p t)
+begins : (p t : List ℕ) → starts_with ◌==◌ (p ++ t) p ≡ true
+begins p t = (starts_is Decides-eqb (p ++ t) p _ refl).1 t refl
 
-follows_step : (x c : ℕ) (p t n : List ℕ) (b : Bool) → (x == c) ≡ b → (after_prefix p t ≡ Some n → t ≡ p ++ n)
-    → after_prefix (x ∷ p) (c ∷ t) ≡ Some n → c ∷ t ≡ x ∷ (p ++ n)
-follows_step x c p t n true e ih h =
-    let k : x ≡ c = eqb-true x c e in let m : t ≡ p ++ n = ih (rw e at h) in cc
-follows_step x c p t n false e ih h = let k : None ≡ Some n = rw e at h in cc
+follows_own : (p t : List ℕ) → after_prefix p (p ++ t) ≡ Some t
+follows_own p t = rw (begins p t) (ap Some (drop-append_seam p t))
+
+follows_if : (p t n : List ℕ) (b : Bool) → starts_with ◌==◌ t p ≡ b → after_prefix p t ≡ Some n → t ≡ p ++ n
+follows_if p t n true e h =
+    let j : Some (drop (length p) t) ≡ Some n = rw e at h in
+    let k : drop (length p) t ≡ n = cc in
+    (starts_is Decides-eqb t p _ refl).0 e ∙ ap (λ (x : List ℕ). p ++ x) k
+follows_if p t n false e h = let k : None ≡ Some n = rw e at h in cc
 
 follows : (p t n : List ℕ) → after_prefix p t ≡ Some n → t ≡ p ++ n
-follows [] t n h = cc
-follows (x ∷ p) [] n h = cc
-follows (x ∷ p) (c ∷ t) n h = follows_step x c p t n (x == c) refl (follows p t n) h
+follows p t n h = follows_if p t n (starts_with ◌==◌ t p) refl h
 
 -- what a list of paths gives a library at a name
 abbrev declared : List (List ℕ) → List ℕ → List ℕ → Value

@@ -1,8 +1,8 @@
 -- Heaps: the tables of a run, each with a mark that says whether it is frozen, and with named fields.
 -- What stands under keys that are no strings is in no heap.
-use Rattle.std.specs.Prelude.{ℕ, zero, suc, Bool, true, false, not, if◌then◌else◌, ◌==◌, List, [], ◌∷◌, ◌++◌, map, Option, Some, None, slice_get}
+use Rattle.std.specs.Prelude.{◌≢◌, ℕ, zero, suc, Bool, true, false, not, if◌then◌else◌, ◌==◌, List, [], ◌∷◌, ◌++◌, map, length, drop, Option, Some, None, slice_get, IsFalse}
 use Rattle.std.specs.Option.{option_map, option_map_or}
-use Rattle.std.specs.List.{filter, filter_map}
+use Rattle.std.specs.List.{All, AllPairs, filter, filter_map, starts_with}
 use Rattle.std.specs.Str.{bytes_eq}
 use Rattle.luau_values.specs.Value.{Value, Nil, Builtin, is_nil}
 
@@ -11,10 +11,14 @@ pub record Field : Type 0 where
   pub name : List ℕ
   pub value : Value
 
--- a table; a name stands in its fields at most once, and no value there is nil
+-- a table
 pub record Table : Type 0 where
   pub frozen : Bool
   pub fields : List Field
+
+-- no name stands in two of some fields, and no value there is nil
+abbrev pub AreFields : List Field → Type 0
+AreFields fields = AllPairs (λ f g. f.name ≢ g.name) fields × All (λ f. IsFalse (is_nil f.value)) fields
 
 -- the tables; an address is a position
 abbrev pub Heap : Type 0
@@ -62,22 +66,21 @@ with_frozen address heap = changed (λ t. record t { frozen = true }) address he
 
 -- what follows a prefix
 abbrev pub after_prefix : List ℕ → List ℕ → Option (List ℕ)
-after_prefix [] text = Some text
-after_prefix (p ∷ prefix) [] = None
-after_prefix (p ∷ prefix) (c ∷ text) = if p == c then after_prefix prefix text else None
+after_prefix prefix text = if starts_with ◌==◌ text prefix then Some (drop (length prefix) text) else None
 
 -- the library of a builtin whose path has a dot
 abbrev pub library_of : List ℕ → Option (List ℕ)
 library_of [] = None
 library_of (c ∷ path) = if c == 46 then Some [] else option_map (λ library. c ∷ library) (library_of path)
 
--- the libraries of some paths, each once, in the order in which they come first
+-- the libraries of some paths, each once, in the order in which paths of theirs come first; so a library's number is by
+-- the first declaration in it
 abbrev pub libraries : List (List ℕ) → List (List ℕ)
 libraries [] = []
 libraries (path ∷ paths) =
     option_map_or (λ library. library ∷ filter (λ l. not (bytes_eq l library)) (libraries paths)) (library_of path) (libraries paths)
 
--- the fields of a library: the builtins among some paths that stand in it
+-- the fields of a library: the builtins among some paths that stand in it, one for each path
 abbrev pub library_fields : List ℕ → List (List ℕ) → List Field
 library_fields library paths =
     filter_map (λ path. option_map (λ name. record { name = name; value = Builtin path }) (after_prefix (library ++ 46 ∷ []) path)) paths

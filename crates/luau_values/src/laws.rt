@@ -1,10 +1,10 @@
 //! What holds of all heaps. Each law is the contract of a function that does nothing.
 
-ghost use Rattle.std.specs.Prelude.{◌≡◌, ◌≢◌, ℕ, ◌<◌, ◌≤◌, ◌++◌, ◌∷◌, [], List, length, slice_get, IsTrue, IsFalse, Some, true, codes, if◌then◌else◌};
+ghost use Rattle.std.specs.Prelude.{◌≡◌, ◌≢◌, ℕ, ◌<◌, ◌≤◌, ◌++◌, ◌∷◌, [], List, length, slice_get, IsTrue, IsFalse, Some, true, false, codes, if◌then◌else◌};
 ghost use Rattle.std.specs.List.{list_any};
 ghost use Rattle.std.specs.Str.{bytes_eq};
 ghost use Rattle.luau_values.specs.Value.{Value, Nil, Builtin};
-ghost use Rattle.luau_values.specs.Heap.{Field, Heap, is_frozen, field_of, value_of, with_table, with_field, with_frozen, start_heap, libraries};
+ghost use Rattle.luau_values.specs.Heap.{Field, Table, AreFields, Heap, written, is_frozen, field_of, value_of, with_table, with_field, with_frozen, start_heap, libraries};
 ghost use Rattle.luau_values.specs.Later.{Later, Extends};
 
 /// A heap is later than itself.
@@ -49,6 +49,26 @@ pub fn freeze_later()
     ensures { (h : Heap) (a : ℕ) → Later h (with_frozen a h) }
 {}
 
+/// A new table stands at the address after the last, isn't frozen, and has the fields that it is given.
+#[tactic(auto, using(crate::proofs::HeapFacts::new_table))]
+pub fn new_table_stands()
+    ensures { (h : Heap) (fields : List Field) → slice_get (with_table fields h) (length h) ≡ Some (record { frozen = false; fields = fields }) }
+{}
+
+/// A table that is frozen has the mark from then on, reads as before, and no other table changes.
+#[tactic(auto, using(crate::proofs::HeapFacts::freeze_freezes, crate::proofs::HeapFacts::freeze_reads, crate::proofs::HeapFacts::freeze_elsewhere))]
+pub fn table_after_freezing()
+    ensures mark { (h : Heap) (a : ℕ) → a < length h → IsTrue (is_frozen (with_frozen a h) a) }
+    ensures fields { (h : Heap) (a b : ℕ) (name : List ℕ) → field_of (with_frozen a h) b name ≡ field_of h b name }
+    ensures elsewhere { (h : Heap) (a b : ℕ) → a ≢ b → slice_get (with_frozen a h) b ≡ slice_get h b }
+{}
+
+/// A heap with more tables has those of the first as they were.
+#[tactic(auto, using(crate::proofs::HeapFacts::extends_keeps))]
+pub fn tables_stay_as_they_were()
+    ensures { (h g : Heap) (a : ℕ) (t : Table) → Extends h g → slice_get h a ≡ Some t → slice_get g a ≡ Some t }
+{}
+
 /// What only adds tables is later.
 #[tactic(auto, using(crate::proofs::HeapFacts::extends_later))]
 pub fn extends_later()
@@ -69,6 +89,13 @@ pub fn fields_after_write()
     ensures own { (h : Heap) (a : ℕ) (name : List ℕ) (value : Value) → a < length h → field_of (with_field a name value h) a name ≡ value }
     ensures others { (h : Heap) (a : ℕ) (name other : List ℕ) (value : Value) → name ≢ other → field_of (with_field a name value h) a other ≡ field_of h a other }
     ensures elsewhere { (h : Heap) (a b : ℕ) (name : List ℕ) (value : Value) → a ≢ b → slice_get (with_field a name value h) b ≡ slice_get h b }
+{}
+
+/// Fields that are written one after another, beginning with none, never have a name twice, and no value is nil.
+#[tactic(auto, using(crate::proofs::HeapFacts::no_fields, crate::proofs::HeapFacts::write_keeps_fields))]
+pub fn names_stand_once()
+    ensures none { AreFields [] }
+    ensures write { (name : List ℕ) (value : Value) (fields : List Field) → AreFields fields → AreFields (written name value fields) }
 {}
 
 /// At the start each table is a library's: it is frozen, and its fields are the library's declared builtins.

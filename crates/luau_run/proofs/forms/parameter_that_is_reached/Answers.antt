@@ -7,10 +7,9 @@ use Rattle.luau_run.specs.Loops.{turns}
 use Rattle.luau_run.specs.Statements.{stat}
 use Rattle.luau_run.proofs.forms.parameter_that_is_reached.Goals as goal
 
-pub returns-clause-number : goal.returns-clause-number
+pub returns : goal.returns
 unfolding ◌>>=◌ give fail spend step log look change ask catch write_field activate anything acts call_builtin call require values turns stat
-returns-clause-number c = refl
-
-pub returns-clause-string : goal.returns-clause-string
-unfolding ◌>>=◌ give fail spend step log look change ask catch write_field activate anything acts call_builtin call require values turns stat
-returns-clause-string c = refl
+returns c = record {
+  number = refl;
+  string = refl;
+}
