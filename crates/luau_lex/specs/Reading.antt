@@ -4,16 +4,12 @@ use Rattle.luau_lex.specs.declared.token.LexError.{LexError}
 use Rattle.luau_lex.specs.declared.reader.Reader.{Reader}
 use Rattle.luau_lex.specs.declared.piece.Piece.{Piece}
 use Rattle.luau_lex.specs.Grammar.{Reads, HasTokens}
-use Rattle.luau_lex.specs.Tokens.{Tok, seen_token, tokens_from}
+use Rattle.luau_lex.specs.Tokens.{Tok, seen_token}
 
 -- these tokens, and then what comes behind them: tokens or a fault
 abbrev pub with_tokens : List Tok → Result (List Tok) LexError → Result (List Tok) LexError
 with_tokens ts (Ok us) = Ok (ts ++ us)
 with_tokens ts (Err e) = Err e
-
--- the tokens found so far, and then those of what is left of the text, or its first fault
-abbrev pub answer_of : Reader → Result (List Tok) LexError
-answer_of r = with_tokens (map seen_token r.tokens.items) (tokens_from r.opens.items 0 r.at r.rest.now)
 
 -- what is left lies within the longest text
 abbrev pub IsSmall : Reader → Type 0

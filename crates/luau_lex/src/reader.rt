@@ -2,7 +2,7 @@ ghost use Rattle.std.specs.Prelude.{◌≡◌, ◌≢◌, ◌≤◌, ◌<◌, �
 ghost use Rattle.luau_lex.specs.declared.token.LexError.TheVariants.{NoMemory};
 ghost use Rattle.luau_lex.specs.Tokens.{Tok, seen_token, token_at, tokens_of, first_line_len};
 ghost use Rattle.luau_lex.specs.Pieces.{opens_behind, innermost};
-ghost use Rattle.luau_lex.specs.Reading.{answer_of, IsSmall, HasRead};
+ghost use Rattle.luau_lex.specs.Reading.{IsSmall, HasRead};
 ghost use Rattle.luau_lex.specs.Grammar.{HasTokens};
 
 use crate::bytes::{Class, byte_at, run_len};
@@ -62,8 +62,6 @@ impl<'s> Reader<'s> {
     fn read(&mut self) -> Result<(), LexError>
         requires some { 0 < length self.old.rest.now }
         requires small { IsSmall self.old }
-        ensures ok { OnOk result (answer_of self.new ≡ answer_of self.old) }
-        ensures err { IfErr result (λ e. e ≢ NoMemory → answer_of self.old ≡ Err e) }
         ensures pieces { OnOk result ((text : List ℕ) → HasRead text self.old → HasRead text self.new) }
         ensures fault { IfErr result (λ e. e ≢ NoMemory →
             (text : List ℕ) → HasRead text self.old → HasTokens text (Err e)) }
