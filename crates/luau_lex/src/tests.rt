@@ -241,7 +241,7 @@ fn long_strings_and_comments(rt: HostRuntime) -> Result<(), Fail> {
 
 #[test]
 fn interpolated_strings(rt: HostRuntime) -> Result<(), Fail> {
-    let cases: [(&[u8], &str); 28] = [
+    let cases: [(&[u8], &str); 29] = [
         (b"`a`", "Whole 0 3;"),
         (b"`{`a", "UnfinishedString(2)"),
         (b"`{{`", "DoubleBrace(1)"),
@@ -272,6 +272,7 @@ fn interpolated_strings(rt: HostRuntime) -> Result<(), Fail> {
         (b"`\\u{{`", "BadEscape(1)"),
         (b"`\\xg{{`", "BadEscape(1)"),
         (b"`\\xg", "UnfinishedString(0)"),
+        (b"`\\xg{a}b", "BadEscape(1)"),
         (b"`\\{a`", "Whole 0 5;"),
         (b"`\\z\n {a}`", "Begin 0 6;Name 6 7;End 7 9;"),
         (b"`a}b`", "Whole 0 5;"),
