@@ -1,5 +1,6 @@
 -- What a reader of a text will have found in the end.
-use Rattle.std.specs.Prelude.{ℕ, ◌+◌, ◌≤◌, ◌^◌, List, ◌++◌, length, map, Result, Ok, Err}
+use Rattle.std.specs.Prelude.{ℕ, ◌+◌, ◌≤◌, List, ◌++◌, length, map, Result, Ok, Err}
+use Rattle.luau_tree.specs.declared.position.TheConstants.{MAX_TEXT}
 use Rattle.luau_lex.specs.declared.token.LexError.{LexError}
 use Rattle.luau_lex.specs.declared.reader.Reader.{Reader}
 use Rattle.luau_lex.specs.declared.piece.Piece.{Piece}
@@ -13,7 +14,7 @@ with_tokens ts (Err e) = Err e
 
 -- what is left lies within the longest text
 abbrev pub IsSmall : Reader → Type 0
-IsSmall r = r.at + length r.rest.now ≤ 2 ^ 20
+IsSmall r = r.at + length r.rest.now ≤ MAX_TEXT
 
 -- Whatever the text has from where the reader is on, it has behind the tokens that were found.
 abbrev pub HasRead : List ℕ → Reader → Type 0

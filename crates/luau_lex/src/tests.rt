@@ -1,11 +1,12 @@
 use crate::{lex, value_of};
+use luau_tree::MAX_TEXT;
 use std::alloc::{AllocError, Global};
 use std::test::Fail;
 
 /// The tokens of a text as words: the kind and the span of each, or the fault.
 fn shown(alloc: Global, text: &[u8]) -> Result<String, AllocError> {
     let mut out = String::new(alloc);
-    if text.len() > 1_048_576 {
+    if text.len() > MAX_TEXT {
         return Ok(out);
     }
     match lex(alloc, text) {
@@ -29,7 +30,7 @@ fn shown(alloc: Global, text: &[u8]) -> Result<String, AllocError> {
 /// The bytes that the first token of a text stands for, in hexadecimal.
 fn first_value(alloc: Global, text: &[u8]) -> Result<String, AllocError> {
     let mut out = String::new(alloc);
-    if text.len() > 1_048_576 {
+    if text.len() > MAX_TEXT {
         return Ok(out);
     }
     if let Ok(tokens) = lex(alloc, text) {
