@@ -1,8 +1,6 @@
 -- The bytes that the token grammar speaks of, and their classes.
 use Rattle.std.specs.Prelude.{ℕ, Bool, ◌||◌, ◌&&◌, not, ◌==◌, nat_le}
 use Rattle.std.specs.Char.{is_ascii_digit, is_ascii_alphabetic, is_ascii_alphanumeric, is_ascii_hexdigit}
-use Rattle.luau_lex.specs.declared.bytes.Class.{Class}
-use Rattle.luau_lex.specs.declared.bytes.Class.TheVariants.{Blank, NameByte, DigitOrUnderscore, NumeralByte, HexOrUnderscore, BinaryOrUnderscore, HexDigit, DecimalDigit, EqualsSign, NoLineFeed}
 
 abbrev pub line_feed : ℕ
 line_feed = 10
@@ -84,16 +82,3 @@ is_binary_or_underscore b = ((b == 48) || (b == 49)) || (b == underscore)
 
 abbrev pub is_no_line_feed : ℕ → Bool
 is_no_line_feed b = not (b == line_feed)
-
--- what the program's classes of bytes contain
-abbrev pub has : Class → ℕ → Bool
-has Blank = is_blank
-has NameByte = is_name_byte
-has DigitOrUnderscore = is_digit_or_underscore
-has NumeralByte = is_numeral_byte
-has HexOrUnderscore = is_hex_or_underscore
-has BinaryOrUnderscore = is_binary_or_underscore
-has HexDigit = is_ascii_hexdigit
-has DecimalDigit = is_ascii_digit
-has EqualsSign = λ b. b == equals
-has NoLineFeed = is_no_line_feed

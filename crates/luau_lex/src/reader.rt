@@ -2,7 +2,7 @@ ghost use Rattle.std.specs.Prelude.{◌≡◌, ◌≢◌, ◌≤◌, ◌<◌, �
 ghost use Rattle.luau_lex.specs.declared.token.LexError.TheVariants.{NoMemory};
 ghost use Rattle.luau_lex.specs.Tokens.{Tok, seen_token, token_at, tokens_of, first_line_len};
 ghost use Rattle.luau_lex.specs.Pieces.{opens_behind, innermost};
-ghost use Rattle.luau_lex.specs.Reading.{IsSmall, HasRead};
+ghost use Rattle.luau_lex.specs.Steps.{IsSmall, HasRead};
 ghost use Rattle.luau_lex.specs.Grammar.{HasTokens};
 
 use crate::bytes::{Class, byte_at, run_len};

@@ -3,7 +3,7 @@ use Rattle.luau_lex.specs.declared.token.LexError.{LexError}
 use Rattle.luau_lex.specs.declared.token.LexError.TheVariants.{NoMemory}
 use Rattle.luau_lex.specs.Tokens.{seen_token, tokens_of}
 use Rattle.luau_lex.specs.Grammar.{HasTokens}
-use Rattle.luau_lex.specs.Reading.{HasRead}
+use Rattle.luau_lex.specs.Steps.{HasRead}
 use Rattle.luau_lex.specs.declared.reader.Reader.{Reader}
 use Rattle.std.proofs.lemmas.List.{append-nil}
 use Rattle.luau_lex.proofs.GrammarLemmas.{start_has, has_then}
