@@ -1,3 +1,4 @@
 pub mod Position
+pub mod Steps
 pub mod Tree
 pub mod View

@@ -1,5 +1,6 @@
 ghost use Rattle.std.specs.Prelude.{◌≡◌, ◌^◌, ◌<◌, ◌≤◌, length};
-ghost use Rattle.luau_tree.specs.Position.{pos_at, place_after, PosStands};
+ghost use Rattle.luau_tree.specs.Position.{pos_at};
+ghost use Rattle.luau_tree.specs.Steps.{place_after, PosStands};
 
 use std::marker::Model;
 
@@ -64,7 +65,7 @@ pub struct Cursor<'a> {
 
 impl<'a> Model for Cursor<'a> {
     ghost use Rattle.std.specs.Prelude.{List, ℕ};
-    ghost use Rattle.luau_tree.specs.Position.{PosStands};
+    ghost use Rattle.luau_tree.specs.Steps.{PosStands};
 
     ghost Value = { List ℕ };
 
