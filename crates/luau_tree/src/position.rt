@@ -5,14 +5,14 @@ ghost use Rattle.luau_tree.specs.Steps.{place_after, PosStands};
 use std::marker::Model;
 
 /// A range of bytes of a text, from `start` up to and without `end`, as offsets from the text's first byte.
-#[derive(Clone, Copy, Debug, PartialEq, Eq, PartialOrd, Ord, Hash)]
+#[derive(Clone, Copy, Debug, PartialEq, Eq)]
 pub struct Span {
     pub start: u32,
     pub end: u32,
 }
 
 /// A place as people count it: the line from 1, and the column from 1 in bytes.
-#[derive(Clone, Copy, Debug, PartialEq, Eq, PartialOrd, Ord, Hash)]
+#[derive(Clone, Copy, Debug, PartialEq, Eq, PartialOrd, Ord)]
 pub struct Pos {
     pub line: u32,
     pub column: u32,
