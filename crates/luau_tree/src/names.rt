@@ -73,7 +73,8 @@ pub enum Access {
     Write,
 }
 
-/// The paths of declared builtins, sorted by their bytes and without repeats.
+/// The paths of declared builtins. They are to be sorted by their bytes and without repeats, so that one is found by
+/// halving. Nothing makes one yet, and so nothing keeps this: the type stands ahead of its calls.
 #[derive(Debug, Drop)]
 pub struct PathSet {
     paths: List<Bytes>,
