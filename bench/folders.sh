@@ -18,10 +18,13 @@ mkdir "$work/blanks" "$work/empty" "$work/calls" "$work/names"
 head -c 1048576 /dev/zero | tr '\0' ' ' >"$work/blank"
 for i in $(seq -w 1 64); do cp "$work/blank" "$work/blanks/m$i.luau"; done
 for i in $(seq -w 1 10000); do : >"$work/empty/m$i.luau"; done
+# The last file of each folder has a report, so that the status tells a run that read it from one that did nothing.
+(head -c 1048564 "$work/blank" && printf 'math.abs("")') >"$work/blanks/m64.luau"
+printf 'math.abs("")' >"$work/empty/m10000.luau"
 awk 'BEGIN { for (i = 0; i < 87381; i++) print "math.abs(1)" }' >"$work/calls/numbers.luau"
 awk 'BEGIN { for (i = 0; i < 65536; i++) print "math.abs(\"\")   " }' >"$work/calls/strings.luau"
 find "$work/empty" -name '*.luau' | sort -R >"$work/names/list"
 
-row '64 files of 1,048,576 blanks' "$work/blanks" 0 wc -c "$work"/blanks/*.luau
+row '64 files of 1,048,576 blanks' "$work/blanks" 1 wc -c "$work"/blanks/*.luau
 row '2 files of calls, about 2 MiB' "$work/calls" 1 wc -c "$work"/calls/*.luau
-row '10,000 empty files' "$work/empty" 0 sort "$work/names/list"
+row '10,000 files, all but one empty' "$work/empty" 1 sort "$work/names/list"
