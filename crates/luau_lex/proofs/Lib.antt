@@ -3,7 +3,6 @@ pub mod FormLemmas
 pub mod GapLemmas
 pub mod GrammarLemmas
 pub mod LongestLemmas
-pub mod NameLemmas
 pub mod OrderLemmas
 pub mod ReadingLemmas
 pub mod SignLemmas

@@ -7,7 +7,7 @@ use Rattle.luau_lex.specs.declared.piece.Piece.TheVariants.{Gap, Found, Faulty}
 use Rattle.luau_lex.specs.declared.piece.Open.{Open}
 use Rattle.luau_lex.specs.Pieces.{piece, innermost, opens_behind}
 use Rattle.luau_lex.specs.Tokens.{Tok, token_at, with_token, behind, tokens_from}
-use Rattle.luau_lex.specs.Reading.{with_tokens}
+use Rattle.luau_lex.specs.Steps.{with_tokens}
 
 -- the bytes of a piece that has begun are passed over
 pub tokens_skip : (opens : List Open) (begun at : ℕ) (text : List ℕ) → tokens_from opens begun at text ≡ tokens_from opens 0 (at + begun) (drop begun text)
@@ -51,21 +51,3 @@ with_one_more ts t (Err e) = refl
 pub with_none : (r : Result (List Tok) LexError) → with_tokens [] r ≡ r
 with_none (Ok us) = refl
 with_none (Err e) = refl
-
--- a turn that passes over a gap
-pub gap_turn : (ts : List Tok) (opens opens' : List Open) (n at at' : ℕ) (text text' : List ℕ) → 1 ≤ n → 0 < length text → piece (innermost opens) at text ≡ Gap n → opens' ≡ opens → at' ≡ at + n → text' ≡ drop n text → with_tokens ts (tokens_from opens' 0 at' text') ≡ with_tokens ts (tokens_from opens 0 at text)
-gap_turn ts opens opens' n at at' text text' least some is same_opens same_at same_text =
-    ap (with_tokens ts) (ap (λ o. tokens_from o 0 at' text') same_opens ∙ ap (λ k. tokens_from opens 0 k text') same_at ∙ ap (tokens_from opens 0 (at + n)) same_text ∙ sym (gap_read opens n at text least some is))
-
--- a turn that takes a token
-pub found_turn : (ts ts' : List Tok) (opens opens' : List Open) (kind : Kind) (n at at' : ℕ) (text text' : List ℕ) → 1 ≤ n → 0 < length text → piece (innermost opens) at text ≡ Found kind n → opens' ≡ opens_behind opens at kind (slice_index text 0) → at' ≡ at + n → text' ≡ drop n text → ts' ≡ ts ++ token_at kind n at text ∷ [] → with_tokens ts' (tokens_from opens' 0 at' text') ≡ with_tokens ts (tokens_from opens 0 at text)
-found_turn ts ts' opens opens' kind n at at' text text' least some is same_opens same_at same_text same_tokens =
-    let behind_it = opens_behind opens at kind (slice_index text 0) in
-    ap (λ t. with_tokens t (tokens_from opens' 0 at' text')) same_tokens
-    ∙ sym (with_one_more ts (token_at kind n at text) (tokens_from opens' 0 at' text'))
-    ∙ ap (λ r. with_tokens ts (with_token (token_at kind n at text) r)) (ap (λ o. tokens_from o 0 at' text') same_opens ∙ ap (λ k. tokens_from behind_it 0 k text') same_at ∙ ap (tokens_from behind_it 0 (at + n)) same_text)
-    ∙ ap (with_tokens ts) (sym (found_read opens kind n at text least some is))
-
--- a turn that meets a fault
-pub fault_turn : (ts : List Tok) (opens : List Open) (e : LexError) (at : ℕ) (text : List ℕ) → 0 < length text → piece (innermost opens) at text ≡ Faulty e → with_tokens ts (tokens_from opens 0 at text) ≡ Err e
-fault_turn ts opens e at text some is = ap (with_tokens ts) (fault_read opens e at text some is)

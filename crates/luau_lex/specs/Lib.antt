@@ -7,6 +7,6 @@ pub mod Strings
 pub mod Pieces
 pub mod Tokens
 pub mod Values
-pub mod Reading
+pub mod Steps
 pub mod Grammar
 pub mod Forms

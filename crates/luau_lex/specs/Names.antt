@@ -1,19 +1,13 @@
 -- Names, and the names that are reserved as words.
-use Rattle.std.specs.Prelude.{ℕ, Bool, List, [], ◌∷◌, codes, if◌then◌else◌, true, false, ◌||◌, ◌&&◌, ◌==◌}
+use Rattle.std.specs.Prelude.{ℕ, Bool, List, [], ◌∷◌, codes, if◌then◌else◌}
+use Rattle.std.specs.List.{list_any}
+use Rattle.std.specs.Str.{bytes_eq}
 use Rattle.luau_lex.specs.declared.token.Kind.{Kind}
 use Rattle.luau_lex.specs.declared.token.Kind.TheVariants.{Name, Word}
 
--- two lists of bytes are one
-abbrev pub same_bytes : List ℕ → List ℕ → Bool
-same_bytes [] [] = true
-same_bytes (x ∷ xs) (y ∷ ys) = (x == y) && same_bytes xs ys
-same_bytes [] (y ∷ ys) = false
-same_bytes (x ∷ xs) [] = false
-
--- one of the lists is these bytes
+-- one of the words is these bytes
 abbrev pub is_listed : List ℕ → List (List ℕ) → Bool
-is_listed bytes [] = false
-is_listed bytes (word ∷ words) = same_bytes bytes word || is_listed bytes words
+is_listed bytes words = list_any (bytes_eq bytes) words
 
 abbrev pub reserved_words : List (List ℕ)
 reserved_words =

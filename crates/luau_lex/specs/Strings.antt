@@ -1,10 +1,7 @@
 -- Strings: what stands inside of one, piece by piece, how far its inside goes, and what bytes it stands for.
-use Rattle.std.specs.Prelude.{ℕ, Bool, zero, suc, ◌+◌, ◌-◌, ◌*◌, ◌/◌, ◌%◌, ◌≤◌, min, ◌&&◌, ◌||◌, ◌==◌, nat_lt, nat_le, List, [], ◌∷◌, ◌++◌, length, take, drop, slice_index, if◌then◌else◌, Option, Some, None, option_map, unwrap_or, is_some}
+use Rattle.std.specs.Prelude.{ℕ, Bool, zero, suc, ◌+◌, ◌-◌, ◌*◌, ◌/◌, ◌%◌, min, ◌&&◌, ◌||◌, ◌==◌, nat_lt, nat_le, List, [], ◌∷◌, ◌++◌, length, take, drop, slice_index, if◌then◌else◌, Option, Some, None, option_map, unwrap_or, is_some}
 use Rattle.std.specs.List.{prefix_len}
 use Rattle.std.specs.Char.{is_ascii_digit, is_ascii_hexdigit}
-use Rattle.luau_lex.specs.declared.elements.Stands.{Stands}
-use Rattle.luau_lex.specs.declared.elements.Stands.TheVariants.{Nothing, Byte, Code, Malformed}
-use Rattle.luau_lex.specs.declared.elements.Parsed.{Parsed}
 use Rattle.luau_lex.specs.Bytes.{line_feed, carriage_return, backslash, backquote, brace, closing_brace, is_blank}
 
 -- One byte or one escape: how many bytes it takes in the text, and the bytes that it stands for. An escape
@@ -120,21 +117,3 @@ value_from zero (b ∷ inside) =
 
 abbrev pub value_of_inside : List ℕ → List ℕ
 value_of_inside inside = value_from 0 inside
-
--- the program's form of what an element stands for
-abbrev pub stands_value : Stands → Option (List ℕ)
-stands_value Nothing = Some []
-stands_value (Byte b) = Some (b ∷ [])
-stands_value (Code n) = Some (utf8_scheme n)
-stands_value Malformed = None
-
--- the program's form of an element
-abbrev pub seen : Parsed → Element
-seen parsed = record { len = parsed.len; value = stands_value parsed.stands }
-
--- the numbers that the program writes by the scheme of UTF-8
-abbrev pub IsWritable : Stands → Type 0
-IsWritable Nothing = Unit {0}
-IsWritable (Byte b) = Unit {0}
-IsWritable (Code n) = n ≤ 0x10FFFF
-IsWritable Malformed = Unit {0}

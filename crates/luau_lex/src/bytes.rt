@@ -1,16 +1,17 @@
 ghost use Rattle.std.specs.Prelude.{◌≡◌, ◌<◌, ◌≤◌, length, slice_index};
 ghost use Rattle.std.specs.List.{prefix_len};
-ghost use Rattle.luau_lex.specs.Bytes.{has, is_blank, is_name_start};
+ghost use Rattle.luau_lex.specs.Bytes.{is_blank, is_name_start};
+ghost use Rattle.luau_lex.specs.Steps.{has};
 
 /// A class of bytes that stand together in a token.
 #[derive(Clone, Copy, Debug, PartialEq, Eq)]
 pub enum Class {
     Blank,
     NameByte,
-    DigitOrLine,
+    DigitOrUnderscore,
     NumeralByte,
-    HexOrLine,
-    BinaryOrLine,
+    HexOrUnderscore,
+    BinaryOrUnderscore,
     HexDigit,
     DecimalDigit,
     EqualsSign,
@@ -25,10 +26,10 @@ impl Class {
         match self {
             Class::Blank => is_blank(b),
             Class::NameByte => b.is_ascii_alphanumeric() || b == b'_',
-            Class::DigitOrLine => b.is_ascii_digit() || b == b'_',
+            Class::DigitOrUnderscore => b.is_ascii_digit() || b == b'_',
             Class::NumeralByte => b.is_ascii_digit() || b == b'_' || b == b'.',
-            Class::HexOrLine => b.is_ascii_hexdigit() || b == b'_',
-            Class::BinaryOrLine => b == b'0' || b == b'1' || b == b'_',
+            Class::HexOrUnderscore => b.is_ascii_hexdigit() || b == b'_',
+            Class::BinaryOrUnderscore => b == b'0' || b == b'1' || b == b'_',
             Class::HexDigit => b.is_ascii_hexdigit(),
             Class::DecimalDigit => b.is_ascii_digit(),
             Class::EqualsSign => b == b'=',

@@ -1,6 +1,7 @@
 ghost use Rattle.std.specs.Prelude.{◌≡◌, ◌≤◌, ◌<◌, ◌+◌, length, IsTrue, MatchOption, true, is_none};
 ghost use Rattle.std.specs.Char.{is_ascii_hexdigit};
-ghost use Rattle.luau_lex.specs.Strings.{digit_number, number_in, byte_escape, decimal_escape, code_escape, letter_escape, escape, element, seen, stands_value, IsWritable};
+ghost use Rattle.luau_lex.specs.Strings.{digit_number, number_in, byte_escape, decimal_escape, code_escape, letter_escape, escape, element};
+ghost use Rattle.luau_lex.specs.Steps.{seen, stands_value, IsWritable};
 
 use crate::bytes::{Class, byte_at, run_len};
 

@@ -1,4 +1,4 @@
-ghost use Rattle.std.specs.Prelude.{◌≡◌, ◌≤◌, ◌<◌, ◌+◌, ◌^◌, length};
+ghost use Rattle.std.specs.Prelude.{◌≡◌, ◌≤◌, ◌<◌, ◌+◌, length};
 ghost use Rattle.luau_lex.specs.Pieces.{piece, other_piece, closing_piece, part_open, innermost, bracket_or_sign};
 ghost use Rattle.luau_lex.specs.Brackets.{level};
 ghost use Rattle.luau_lex.specs.Tokens.{IsWithin};
@@ -13,13 +13,14 @@ use crate::piece::{Open, Piece};
 use crate::signs::sign_piece;
 use crate::strings::quoted_piece;
 use crate::token::Kind;
+use luau_tree::MAX_TEXT;
 
 /// What stands at the closing brace at the front, where the interpolated string that goes on there, if one
 /// does, began at `start`.
 #[tactic(auto, unfolding(crate::specs::Pieces::closing_piece))]
 fn closing_piece(start: Option<u32>, at: u32, text: &[u8]) -> Piece
     requires some { 0 < length text.now }
-    requires small { at + length text.now ≤ 2 ^ 20 }
+    requires small { at + length text.now ≤ MAX_TEXT }
     ensures value { result ≡ closing_piece start at text.now }
     ensures within { IsWithin result (length text.now) }
 {
@@ -43,7 +44,7 @@ fn part_open(brace: Option<Open>) -> Option<u32>
 #[tactic(auto, unfolding(crate::specs::Pieces::bracket_or_sign))]
 fn bracket_or_sign(at: u32, text: &[u8]) -> Piece
     requires some { 0 < length text.now }
-    requires small { at + length text.now ≤ 2 ^ 20 }
+    requires small { at + length text.now ≤ MAX_TEXT }
     ensures value { result ≡ bracket_or_sign (level text.now) at text.now }
     ensures within { IsWithin result (length text.now) }
 {
@@ -56,7 +57,7 @@ fn bracket_or_sign(at: u32, text: &[u8]) -> Piece
 #[tactic(auto, unfolding(crate::specs::Pieces::other_piece))]
 fn other_piece(brace: Option<Open>, at: u32, text: &[u8]) -> Piece
     requires some { 0 < length text.now }
-    requires small { at + length text.now ≤ 2 ^ 20 }
+    requires small { at + length text.now ≤ MAX_TEXT }
     ensures value { result ≡ other_piece brace at text.now }
     ensures within { IsWithin result (length text.now) }
 {
@@ -77,7 +78,7 @@ fn other_piece(brace: Option<Open>, at: u32, text: &[u8]) -> Piece
 #[tactic(auto, unfolding(crate::specs::Pieces::piece))]
 pub fn piece(brace: Option<Open>, at: u32, text: &[u8]) -> Piece
     requires some { 0 < length text.now }
-    requires small { at + length text.now ≤ 2 ^ 20 }
+    requires small { at + length text.now ≤ MAX_TEXT }
     ensures value { result ≡ piece brace at text.now }
     ensures within { IsWithin result (length text.now) }
 {

@@ -1,4 +1,4 @@
-ghost use Rattle.std.specs.Prelude.{◌≡◌, ◌≤◌, ◌<◌, ◌+◌, ◌^◌, length, slice_index};
+ghost use Rattle.std.specs.Prelude.{◌≡◌, ◌≤◌, ◌<◌, ◌+◌, length, slice_index};
 ghost use Rattle.luau_lex.specs.Pieces.{part_piece};
 ghost use Rattle.luau_lex.specs.Tokens.{IsWithin};
 
@@ -6,13 +6,14 @@ use crate::bytes::byte_at;
 use crate::piece::Piece;
 use crate::strings::{inside_len, unless_malformed};
 use crate::token::{Kind, LexError};
+use luau_tree::MAX_TEXT;
 
 /// The part of an interpolated string behind the backquote or brace at the front: `last` where a backquote
 /// ends it, `further` where a brace does. The string began at `start`.
 #[tactic(auto, unfolding(crate::specs::Pieces::part_piece))]
 pub fn part_piece(last: Kind, further: Kind, start: u32, at: u32, text: &[u8]) -> Piece
     requires some { 0 < length text.now }
-    requires small { at + length text.now ≤ 2 ^ 20 }
+    requires small { at + length text.now ≤ MAX_TEXT }
     ensures value { result ≡ part_piece last further start at text.now }
     ensures within { IsWithin result (length text.now) }
 {

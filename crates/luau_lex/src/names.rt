@@ -2,51 +2,36 @@ ghost use Rattle.std.specs.Prelude.{◌≡◌, true, slice_index, length};
 ghost use Rattle.luau_lex.specs.Bytes.{is_name_byte};
 ghost use Rattle.luau_lex.specs.Pieces.{name_piece};
 ghost use Rattle.luau_lex.specs.Tokens.{IsWithin};
-ghost use Rattle.luau_lex.specs.Names.{name_kind, same_bytes, is_listed, reserved_words};
+ghost use Rattle.luau_lex.specs.Names.{name_kind, is_listed, reserved_words};
 
 use crate::bytes::{Class, run_len};
 use crate::piece::Piece;
 use crate::token::Kind;
 
-/// Whether two slices have the same bytes.
-fn same_bytes(a: &[u8], b: &[u8]) -> bool
-    ensures { result ≡ same_bytes a.now b.now }
-{
-    if a.len() != b.len() {
-        return false;
-    }
-    for i in 0..a.len() {
-        if a[i] != b[i] {
-            return false;
-        }
-    }
-    true
-}
-
 fn is_reserved(name: &[u8]) -> bool
     ensures { result ≡ is_listed name.now reserved_words }
 {
-    same_bytes(name, b"and")
-        || same_bytes(name, b"break")
-        || same_bytes(name, b"do")
-        || same_bytes(name, b"else")
-        || same_bytes(name, b"elseif")
-        || same_bytes(name, b"end")
-        || same_bytes(name, b"false")
-        || same_bytes(name, b"for")
-        || same_bytes(name, b"function")
-        || same_bytes(name, b"if")
-        || same_bytes(name, b"in")
-        || same_bytes(name, b"local")
-        || same_bytes(name, b"nil")
-        || same_bytes(name, b"not")
-        || same_bytes(name, b"or")
-        || same_bytes(name, b"repeat")
-        || same_bytes(name, b"return")
-        || same_bytes(name, b"then")
-        || same_bytes(name, b"true")
-        || same_bytes(name, b"until")
-        || same_bytes(name, b"while")
+    name == b"and".as_slice()
+        || name == b"break".as_slice()
+        || name == b"do".as_slice()
+        || name == b"else".as_slice()
+        || name == b"elseif".as_slice()
+        || name == b"end".as_slice()
+        || name == b"false".as_slice()
+        || name == b"for".as_slice()
+        || name == b"function".as_slice()
+        || name == b"if".as_slice()
+        || name == b"in".as_slice()
+        || name == b"local".as_slice()
+        || name == b"nil".as_slice()
+        || name == b"not".as_slice()
+        || name == b"or".as_slice()
+        || name == b"repeat".as_slice()
+        || name == b"return".as_slice()
+        || name == b"then".as_slice()
+        || name == b"true".as_slice()
+        || name == b"until".as_slice()
+        || name == b"while".as_slice()
 }
 
 /// A reserved word, or a name.

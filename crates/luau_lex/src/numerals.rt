@@ -62,7 +62,7 @@ pub fn numeral_len(text: &[u8]) -> usize
 fn is_digits(text: &[u8]) -> bool
     ensures { result ≡ is_digits text.now }
 {
-    byte_at(text, 0).is_ascii_digit() && run_len(text, Class::DigitOrLine) == text.len()
+    byte_at(text, 0).is_ascii_digit() && run_len(text, Class::DigitOrUnderscore) == text.len()
 }
 
 #[tactic(auto, unfolding(crate::specs::Numerals::is_exponent_or_none))]
@@ -82,7 +82,7 @@ fn after_fraction(text: &[u8]) -> &[u8]
 {
     if byte_at(text, 0) == b'.' {
         let digits = &text[1..];
-        &digits[run_len(digits, Class::DigitOrLine)..]
+        &digits[run_len(digits, Class::DigitOrUnderscore)..]
     } else {
         text
     }
@@ -92,7 +92,7 @@ fn after_fraction(text: &[u8]) -> &[u8]
 fn is_decimal(word: &[u8]) -> bool
     ensures { result ≡ is_decimal word.now }
 {
-    is_exponent_or_none(after_fraction(&word[run_len(word, Class::DigitOrLine)..]))
+    is_exponent_or_none(after_fraction(&word[run_len(word, Class::DigitOrUnderscore)..]))
 }
 
 fn has_hex_digit(text: &[u8]) -> bool
@@ -111,14 +111,14 @@ fn has_digit(text: &[u8]) -> bool
 fn is_hex_part(text: &[u8]) -> bool
     ensures { result ≡ is_hex_part text.now }
 {
-    run_len(text, Class::HexOrLine) == text.len() && has_hex_digit(text)
+    run_len(text, Class::HexOrUnderscore) == text.len() && has_hex_digit(text)
 }
 
 #[tactic(auto, unfolding(crate::specs::Numerals::is_binary_part))]
 fn is_binary_part(text: &[u8]) -> bool
     ensures { result ≡ is_binary_part text.now }
 {
-    run_len(text, Class::BinaryOrLine) == text.len() && has_digit(text)
+    run_len(text, Class::BinaryOrUnderscore) == text.len() && has_digit(text)
 }
 
 /// Whether the word of a numeral is a numeral.

@@ -1,15 +1,15 @@
-ghost use Rattle.std.specs.Prelude.{◌≡◌, ◌≢◌, ◌≤◌, ◌<◌, ◌+◌, ◌^◌, ◌++◌, ◌∷◌, [], length, take, drop, slice_index, IfOk, IfErr, OnOk, List, ℕ, map, Ok, Err, Some};
+ghost use Rattle.std.specs.Prelude.{◌≡◌, ◌≢◌, ◌≤◌, ◌<◌, ◌+◌, ◌++◌, ◌∷◌, [], length, take, drop, slice_index, IfOk, IfErr, OnOk, List, ℕ, map, Ok, Err, Some};
 ghost use Rattle.luau_lex.specs.declared.token.LexError.TheVariants.{NoMemory};
 ghost use Rattle.luau_lex.specs.Tokens.{Tok, seen_token, token_at, tokens_of, first_line_len};
 ghost use Rattle.luau_lex.specs.Pieces.{opens_behind, innermost};
-ghost use Rattle.luau_lex.specs.Reading.{answer_of, IsSmall, HasRead};
+ghost use Rattle.luau_lex.specs.Steps.{IsSmall, HasRead};
 ghost use Rattle.luau_lex.specs.Grammar.{HasTokens};
 
 use crate::bytes::{Class, byte_at, run_len};
 use crate::front::piece;
 use crate::piece::{Open, Piece};
 use crate::token::{Kind, LexError, Token};
-use luau_tree::Span;
+use luau_tree::{MAX_TEXT, Span};
 use std::alloc::{AllocError, Global};
 
 /// A text that is read from its begin to its end: what is left of it, and what was found so far.
@@ -62,8 +62,6 @@ impl<'s> Reader<'s> {
     fn read(&mut self) -> Result<(), LexError>
         requires some { 0 < length self.old.rest.now }
         requires small { IsSmall self.old }
-        ensures ok { OnOk result (answer_of self.new ≡ answer_of self.old) }
-        ensures err { IfErr result (λ e. e ≢ NoMemory → answer_of self.old ≡ Err e) }
         ensures pieces { OnOk result ((text : List ℕ) → HasRead text self.old → HasRead text self.new) }
         ensures fault { IfErr result (λ e. e ≢ NoMemory →
             (text : List ℕ) → HasRead text self.old → HasTokens text (Err e)) }
@@ -84,7 +82,7 @@ impl<'s> Reader<'s> {
 /// The token of this kind and length at the front.
 fn token_of<'s>(kind: Kind, at: u32, rest: &'s [u8], n: usize) -> Token<'s>
     requires within { n ≤ length rest.now }
-    requires small { at + length rest.now ≤ 2 ^ 20 }
+    requires small { at + length rest.now ≤ MAX_TEXT }
     ensures { seen_token result ≡ token_at kind n at rest.now }
 {
     let end = at + n as u32;
@@ -147,7 +145,7 @@ fn first_line_len(text: &[u8]) -> usize
 ///
 /// Fails at the first fault of the text, which has no tokens then, or where memory runs out.
 pub fn lex<'s>(alloc: Global, text: &'s [u8]) -> Result<Vec<Token<'s>>, LexError>
-    requires { length text.now ≤ 1048576 }
+    requires { length text.now ≤ MAX_TEXT }
     // The text is cut into pieces, and these are the tokens among them.
     ensures tokens { IfOk result (λ v. HasTokens text.now (Ok (map seen_token v.items))) }
     // This is where the text can be cut no further.

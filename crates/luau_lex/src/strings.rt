@@ -7,6 +7,7 @@ use crate::bytes::byte_at;
 use crate::elements::element;
 use crate::piece::Piece;
 use crate::token::{Kind, LexError};
+use luau_tree::MAX_TEXT;
 
 #[tactic(auto, unfolding(crate::specs::Strings::ends_inside))]
 fn ends_inside(mark: u8, b: u8) -> bool
@@ -59,7 +60,7 @@ pub fn unless_malformed(at: u32, inside: &[u8], piece: Piece) -> Piece
 #[tactic(auto, unfolding(crate::specs::Pieces::quoted_piece))]
 pub fn quoted_piece(at: u32, text: &[u8]) -> Piece
     requires mark { 0 < slice_index text.now 0 }
-    requires small { at + length text.now ≤ 2 ^ 20 }
+    requires small { at + length text.now ≤ MAX_TEXT }
     ensures value { result ≡ quoted_piece at text.now }
     ensures within { IsWithin result (length text.now) }
 {

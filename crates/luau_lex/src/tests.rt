@@ -1,11 +1,12 @@
 use crate::{lex, value_of};
+use luau_tree::MAX_TEXT;
 use std::alloc::{AllocError, Global};
 use std::test::Fail;
 
 /// The tokens of a text as words: the kind and the span of each, or the fault.
 fn shown(alloc: Global, text: &[u8]) -> Result<String, AllocError> {
     let mut out = String::new(alloc);
-    if text.len() > 1_048_576 {
+    if text.len() > MAX_TEXT {
         return Ok(out);
     }
     match lex(alloc, text) {
@@ -29,7 +30,7 @@ fn shown(alloc: Global, text: &[u8]) -> Result<String, AllocError> {
 /// The bytes that the first token of a text stands for, in hexadecimal.
 fn first_value(alloc: Global, text: &[u8]) -> Result<String, AllocError> {
     let mut out = String::new(alloc);
-    if text.len() > 1_048_576 {
+    if text.len() > MAX_TEXT {
         return Ok(out);
     }
     if let Ok(tokens) = lex(alloc, text) {
@@ -241,7 +242,7 @@ fn long_strings_and_comments(rt: HostRuntime) -> Result<(), Fail> {
 
 #[test]
 fn interpolated_strings(rt: HostRuntime) -> Result<(), Fail> {
-    let cases: [(&[u8], &str); 28] = [
+    let cases: [(&[u8], &str); 29] = [
         (b"`a`", "Whole 0 3;"),
         (b"`{`a", "UnfinishedString(2)"),
         (b"`{{`", "DoubleBrace(1)"),
@@ -272,6 +273,7 @@ fn interpolated_strings(rt: HostRuntime) -> Result<(), Fail> {
         (b"`\\u{{`", "BadEscape(1)"),
         (b"`\\xg{{`", "BadEscape(1)"),
         (b"`\\xg", "UnfinishedString(0)"),
+        (b"`\\xg{a}b", "BadEscape(1)"),
         (b"`\\{a`", "Whole 0 5;"),
         (b"`\\z\n {a}`", "Begin 0 6;Name 6 7;End 7 9;"),
         (b"`a}b`", "Whole 0 5;"),

@@ -1,6 +1,7 @@
 ghost use Rattle.std.specs.Prelude.{◌≡◌, ◌≤◌, ◌++◌, [], OnOk, IfOk, unwrap_or};
 ghost use Rattle.luau_lex.specs.Values.{between_marks, without_first_line_end, is_line_end_pair, with_line_feeds, long_value, marked_value, string_value};
-ghost use Rattle.luau_lex.specs.Strings.{utf8_scheme, value_of_inside, stands_value, IsWritable};
+ghost use Rattle.luau_lex.specs.Strings.{utf8_scheme, value_of_inside};
+ghost use Rattle.luau_lex.specs.Steps.{stands_value, IsWritable};
 
 use crate::bytes::{Class, byte_at, run_len};
 use crate::elements::{Stands, element};

@@ -3,7 +3,8 @@ use Rattle.std.proofs.Common.{◌≡◌, ℕ, ◌+◌, ◌-◌, ◌<◌, ◌≤�
 use Rattle.std.specs.List.{suffix_len}
 use Rattle.std.proofs.lemmas.List.{length-take}
 use Rattle.std.proofs.lemmas.List.Sums.{count_by_more_yes, count_by_more_no, suffix_len-take_yes, suffix_len-take_no, count_by-le-length, suffix_len-le-length}
-use Rattle.luau_tree.specs.Position.{line_of, column_of, pos_at, place_after}
+use Rattle.luau_tree.specs.Position.{line_of, column_of, pos_at}
+use Rattle.luau_tree.specs.Steps.{place_after}
 
 -- no line past the number of bytes
 pub line_of-le : (text : List ℕ) (k : ℕ) → line_of text k ≤ k + 1

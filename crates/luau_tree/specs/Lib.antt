@@ -1,4 +1,5 @@
 pub mod Position
+pub mod Steps
 pub mod Tree
 pub mod View
 pub mod Exprs

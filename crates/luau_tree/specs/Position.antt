@@ -1,8 +1,7 @@
 -- Lines and columns of a text.
-use Rattle.std.specs.Prelude.{◌≡◌, ◌≤◌, ℕ, ◌+◌, ◌==◌, if◌then◌else◌, List, length, take, count_by, not}
+use Rattle.std.specs.Prelude.{ℕ, ◌+◌, ◌==◌, List, take, count_by, not}
 use Rattle.std.specs.List.{suffix_len}
 use Rattle.luau_tree.specs.declared.position.Pos.{Pos}
-use Rattle.luau_tree.specs.declared.position.TheConstants.{MAX_TEXT}
 
 -- the line of an offset: one more than the number of line feeds before it
 abbrev pub line_of : List ℕ → ℕ → ℕ
@@ -15,13 +14,3 @@ column_of text offset = suffix_len (λ b. not (b == 10)) (take offset text) + 1
 -- the place of an offset in a text
 abbrev pub pos_at : List ℕ → ℕ → Pos
 pos_at text offset = record { line = line_of text offset; column = column_of text offset }
-
--- the place after a byte: a line feed ends its line
-abbrev pub place_after : Pos → ℕ → Pos
-place_after pos byte = if byte == 10 then record { line = pos.line + 1; column = 1 } else record { line = pos.line; column = pos.column + 1 }
-
--- a place belongs to an offset within a text of at most 1,048,576 bytes
-pub record PosStands (text : List ℕ) (offset : ℕ) (pos : Pos) : Type 0 where
-  pub within : offset ≤ length text
-  pub short : length text ≤ MAX_TEXT
-  pub place : pos ≡ pos_at text offset

@@ -168,7 +168,7 @@ stat_of x = plain.the_stat x.span x.kind
 abbrev type_of : TypeSyntax-F ExprKind Item PropKey StatKind TypeKind (Expr × Block) Bind Block Body (Expr × Expr) Expr Gen Prop Stat TypeSyntax → TypeSyntax
 type_of x = plain.the_type x.span x.kind
 
--- the plain tree of each part of a tree
+-- The plain tree of each part of a tree. An arm or a choice has none of its own, and is the pair of its parts.
 abbrev pub view_block : code.Block.Block → Block
 view_block = code.Block.fold-Block ExprKind Item PropKey StatKind TypeKind (Expr × Block) Bind Block Body (Expr × Expr) Expr Gen Prop Stat TypeSyntax
     expr_kind item prop_key stat_kind type_kind arm bind_of block_of body_of choice expr_of gen_of prop_of stat_of type_of
@@ -204,3 +204,31 @@ view_gen = code.Gen.fold-Gen ExprKind Item PropKey StatKind TypeKind (Expr × Bl
 abbrev pub view_prop : code.Prop.Prop → Prop
 view_prop = code.Prop.fold-Prop ExprKind Item PropKey StatKind TypeKind (Expr × Block) Bind Block Body (Expr × Expr) Expr Gen Prop Stat TypeSyntax
     expr_kind item prop_key stat_kind type_kind arm bind_of block_of body_of choice expr_of gen_of prop_of stat_of type_of
+
+abbrev pub view_expr_kind : code.ExprKind.ExprKind → ExprKind
+view_expr_kind = code.ExprKind.fold-ExprKind ExprKind Item PropKey StatKind TypeKind (Expr × Block) Bind Block Body (Expr × Expr) Expr Gen Prop Stat TypeSyntax
+    expr_kind item prop_key stat_kind type_kind arm bind_of block_of body_of choice expr_of gen_of prop_of stat_of type_of
+
+abbrev pub view_stat_kind : code.StatKind.StatKind → StatKind
+view_stat_kind = code.StatKind.fold-StatKind ExprKind Item PropKey StatKind TypeKind (Expr × Block) Bind Block Body (Expr × Expr) Expr Gen Prop Stat TypeSyntax
+    expr_kind item prop_key stat_kind type_kind arm bind_of block_of body_of choice expr_of gen_of prop_of stat_of type_of
+
+abbrev pub view_type_kind : code.TypeKind.TypeKind → TypeKind
+view_type_kind = code.TypeKind.fold-TypeKind ExprKind Item PropKey StatKind TypeKind (Expr × Block) Bind Block Body (Expr × Expr) Expr Gen Prop Stat TypeSyntax
+    expr_kind item prop_key stat_kind type_kind arm bind_of block_of body_of choice expr_of gen_of prop_of stat_of type_of
+
+abbrev pub view_prop_key : code.PropKey.PropKey → PropKey
+view_prop_key = code.PropKey.fold-PropKey ExprKind Item PropKey StatKind TypeKind (Expr × Block) Bind Block Body (Expr × Expr) Expr Gen Prop Stat TypeSyntax
+    expr_kind item prop_key stat_kind type_kind arm bind_of block_of body_of choice expr_of gen_of prop_of stat_of type_of
+
+abbrev pub view_arm : code.Arm.Arm → Expr × Block
+view_arm = code.Arm.fold-Arm ExprKind Item PropKey StatKind TypeKind (Expr × Block) Bind Block Body (Expr × Expr) Expr Gen Prop Stat TypeSyntax
+    expr_kind item prop_key stat_kind type_kind arm bind_of block_of body_of choice expr_of gen_of prop_of stat_of type_of
+
+abbrev pub view_choice : code.Choice.Choice → Expr × Expr
+view_choice = code.Choice.fold-Choice ExprKind Item PropKey StatKind TypeKind (Expr × Block) Bind Block Body (Expr × Expr) Expr Gen Prop Stat TypeSyntax
+    expr_kind item prop_key stat_kind type_kind arm bind_of block_of body_of choice expr_of gen_of prop_of stat_of type_of
+
+-- a module is the block of its own body
+abbrev pub view_module : code.Module.Module → Block
+view_module m = view_block m.block

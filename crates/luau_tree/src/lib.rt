@@ -1,5 +1,8 @@
-//! What every layer says about the text of a module: spans of bytes, lines and columns, and the plain
-//! containers that trees and lines are made of.
+//! What every layer says about a module: the tree of its syntax, and spans of bytes, lines and columns of its text; with
+//! the plain containers that trees and lines are made of.
+//!
+//! Contracts speak of the plain tree in `specs/Tree.antt`; `specs/View.antt` says which one each part of a tree has.
+//! No call makes a tree yet.
 #![tactic(auto)]
 
 mod containers;

@@ -1,26 +1,26 @@
 use crate::containers::{Bytes, List};
 
 /// The number of an expression in its module.
-#[derive(Clone, Copy, Debug, PartialEq, Eq, PartialOrd, Ord, Hash)]
+#[derive(Clone, Copy, Debug, PartialEq, Eq, PartialOrd, Ord)]
 pub struct ExprId(pub u32);
 
 /// The number of a function's body in its module.
-#[derive(Clone, Copy, Debug, PartialEq, Eq, PartialOrd, Ord, Hash)]
+#[derive(Clone, Copy, Debug, PartialEq, Eq, PartialOrd, Ord)]
 pub struct FnId(pub u32);
 
 /// The number of a local in its module: its position among all locals in the order of the text.
-#[derive(Clone, Copy, Debug, PartialEq, Eq, PartialOrd, Ord, Hash)]
+#[derive(Clone, Copy, Debug, PartialEq, Eq, PartialOrd, Ord)]
 pub struct LocalId(pub u32);
 
 /// A place that a run can reach: an expression, or a parameter of a function's body, counted from 0.
-#[derive(Clone, Copy, Debug, PartialEq, Eq, PartialOrd, Ord, Hash)]
+#[derive(Clone, Copy, Debug, PartialEq, Eq, PartialOrd, Ord)]
 pub enum Place {
     Expr(ExprId),
     Param { function: FnId, index: u32 },
 }
 
 /// A unary operator: `-`, `not`, `#`.
-#[derive(Clone, Copy, Debug, PartialEq, Eq, PartialOrd, Ord, Hash)]
+#[derive(Clone, Copy, Debug, PartialEq, Eq)]
 pub enum UnOp {
     Minus,
     Not,
@@ -28,7 +28,7 @@ pub enum UnOp {
 }
 
 /// A binary operator: `or and < > <= >= ~= == .. + - * / // % ^`.
-#[derive(Clone, Copy, Debug, PartialEq, Eq, PartialOrd, Ord, Hash)]
+#[derive(Clone, Copy, Debug, PartialEq, Eq)]
 pub enum BinOp {
     Or,
     And,
@@ -49,7 +49,7 @@ pub enum BinOp {
 }
 
 /// What an operand is an operand of.
-#[derive(Clone, Copy, Debug, PartialEq, Eq, PartialOrd, Ord, Hash)]
+#[derive(Clone, Copy, Debug, PartialEq, Eq)]
 pub enum Op {
     /// It is called.
     Call,
@@ -66,14 +66,15 @@ pub enum Op {
 }
 
 /// How a property of a table type may be used: both ways, or only as `read` or `write` says.
-#[derive(Clone, Copy, Debug, PartialEq, Eq, PartialOrd, Ord, Hash)]
+#[derive(Clone, Copy, Debug, PartialEq, Eq)]
 pub enum Access {
     Both,
     Read,
     Write,
 }
 
-/// The paths of declared builtins, sorted by their bytes and without repeats.
+/// The paths of declared builtins. They are to be sorted by their bytes and without repeats, so that one is found by
+/// halving. Nothing makes one yet, and so nothing keeps this: the type stands ahead of its calls.
 #[derive(Debug, Drop)]
 pub struct PathSet {
     paths: List<Bytes>,

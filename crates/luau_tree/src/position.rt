@@ -1,17 +1,18 @@
 ghost use Rattle.std.specs.Prelude.{◌≡◌, ◌^◌, ◌<◌, ◌≤◌, length};
-ghost use Rattle.luau_tree.specs.Position.{pos_at, place_after, PosStands};
+ghost use Rattle.luau_tree.specs.Position.{pos_at};
+ghost use Rattle.luau_tree.specs.Steps.{place_after, PosStands};
 
 use std::marker::Model;
 
 /// A range of bytes of a text, from `start` up to and without `end`, as offsets from the text's first byte.
-#[derive(Clone, Copy, Debug, PartialEq, Eq, PartialOrd, Ord, Hash)]
+#[derive(Clone, Copy, Debug, PartialEq, Eq)]
 pub struct Span {
     pub start: u32,
     pub end: u32,
 }
 
 /// A place as people count it: the line from 1, and the column from 1 in bytes.
-#[derive(Clone, Copy, Debug, PartialEq, Eq, PartialOrd, Ord, Hash)]
+#[derive(Clone, Copy, Debug, PartialEq, Eq, PartialOrd, Ord)]
 pub struct Pos {
     pub line: u32,
     pub column: u32,
@@ -64,7 +65,7 @@ pub struct Cursor<'a> {
 
 impl<'a> Model for Cursor<'a> {
     ghost use Rattle.std.specs.Prelude.{List, ℕ};
-    ghost use Rattle.luau_tree.specs.Position.{PosStands};
+    ghost use Rattle.luau_tree.specs.Steps.{PosStands};
 
     ghost Value = { List ℕ };
 

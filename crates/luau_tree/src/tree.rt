@@ -4,6 +4,9 @@ use crate::position::Span;
 use sqlite_items::{Boxed, Items};
 
 /// A module: the block of its own body.
+///
+/// The span of each part goes from the first token of its phrase through the last. Where a rule is another one, it
+/// stands at the part.
 #[derive(Debug, Drop)]
 pub struct Module {
     pub block: Block,
@@ -16,7 +19,7 @@ pub struct Block {
     pub stats: Items<Stat>,
 }
 
-/// A statement. The span has its attributes and not its `;`.
+/// A statement. The span has the statement's attributes, and not the `;` behind it.
 #[cycle(tree)]
 #[derive(Debug, Drop)]
 pub struct Stat {
@@ -117,7 +120,9 @@ pub struct Arm {
     pub block: Block,
 }
 
-/// An expression. Expressions of a module are numbered from 0 in the order parent before child, left before right.
+/// An expression. The expressions of a module are numbered from 0 in the order of the text, parent before child and
+/// left before right. Those in the `typeof(..)` of a type have their numbers at the place where they stand, and the
+/// path of a function statement comes before what is in its body.
 #[cycle(tree)]
 #[derive(Debug, Drop)]
 pub struct Expr {
@@ -142,7 +147,7 @@ pub enum ExprKind {
     Str(Bytes),
     /// `...`
     Vararg,
-    /// A function literal.
+    /// A function literal. With attributes the expression begins at the first `@`.
     Function(Boxed<Body>),
     /// A name.
     Name(Bytes),
@@ -161,7 +166,7 @@ pub enum ExprKind {
         callee: Boxed<Expr>,
         args: Items<Expr>,
     },
-    /// `base:name(args)`
+    /// `base:name(args)`. The name has a span of its own, as it is no expression.
     Method {
         base: Boxed<Expr>,
         name: Bytes,
@@ -188,7 +193,8 @@ pub enum ExprKind {
     },
     /// `{a = x, [k] = y, z}`
     Table(Items<Item>),
-    /// An interpolated string: the texts around its parts, one more than there are parts.
+    /// An interpolated string: the texts around its parts, one more than there are parts. They are the bytes that the
+    /// texts stand for, as those of a `Str`, and not as they are written.
     Interp {
         texts: List<Bytes>,
         parts: Items<Expr>,
@@ -221,7 +227,8 @@ pub enum Item {
 }
 
 /// A function's generics, parameters, result and block. The bodies of a module are numbered from 0 in the order of
-/// their first tokens. The span begins at the `<` or the `(`.
+/// their first tokens. The span begins at the `<` of the generics, or at the `(` where there are none, and goes
+/// through the `end`.
 #[cycle(tree)]
 #[derive(Debug, Drop)]
 pub struct Body {
@@ -257,7 +264,8 @@ pub struct Gen {
 }
 
 /// A type as it is written. A type in parentheses has the span of the type inside, and a leading `|` or `&` isn't
-/// counted.
+/// counted. The phrases around a type in parentheses cover the parentheses: in `(A)?` the span of `A` is that of the
+/// name, and `(A)?` begins at the `(`.
 #[cycle(tree)]
 #[derive(Debug, Drop)]
 pub struct TypeSyntax {
@@ -275,7 +283,7 @@ pub enum TypeKind {
     Bool(bool),
     /// A string literal, as the bytes that it stands for.
     Str(Bytes),
-    /// `prefix.name<args>`
+    /// `prefix.name<args>`. There are no `args` in `T` and in `T<>` alike.
     Named {
         prefix: Option<Bytes>,
         name: Bytes,
@@ -299,7 +307,7 @@ pub enum TypeKind {
     Meet(Items<TypeSyntax>),
     /// `T?`
     Optional(Boxed<TypeSyntax>),
-    /// `(A, B)` as a result or a type argument.
+    /// `(A, B)` as a result or a type argument. With one type and no `...` it is that type, and no pack.
     Pack(Items<TypeSyntax>),
     /// `...T`
     Variadic(Boxed<TypeSyntax>),

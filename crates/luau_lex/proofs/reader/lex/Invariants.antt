@@ -1,12 +1,10 @@
-use Rattle.std.proofs.Common.{◌≡◌, length}
-use Rattle.luau_lex.specs.Tokens.{tokens_of}
-use Rattle.luau_lex.specs.Reading.{answer_of, IsSmall, HasRead}
+use Rattle.std.proofs.Common.{length}
+use Rattle.luau_lex.specs.Steps.{IsSmall, HasRead}
 use Rattle.luau_lex.proofs.reader.lex.Given as goal
 
 -- the reader will have found in the end what the text has
 abbrev pub invariant-loop-reader : goal.invariant-loop-reader
 invariant-loop-reader l = record {
-  same : answer_of l.reader ≡ tokens_of l.text;
   read : HasRead l.text l.reader;
   small : IsSmall l.reader;
 }

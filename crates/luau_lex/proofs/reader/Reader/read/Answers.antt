@@ -1,41 +1,15 @@
 use Rattle.std.proofs.Common.{OnOk, Result, Ok, Err, sym, ap, ◌∙◌, map}
 use Rattle.luau_lex.specs.Pieces.{piece}
-use Rattle.luau_lex.specs.Tokens.{seen_token, tokens_from}
+use Rattle.luau_lex.specs.Tokens.{seen_token}
 use Rattle.luau_lex.specs.Grammar.{StandsHere}
-use Rattle.luau_lex.specs.Reading.{with_tokens}
 use Rattle.luau_lex.specs.declared.piece.Piece.TheVariants.{Gap, Found, Faulty}
 use Rattle.luau_lex.proofs.GrammarLemmas.{gap_has, found_has, fault_has}
-use Rattle.luau_lex.proofs.ReadingLemmas.{gap_turn, found_turn, fault_turn}
 use Rattle.luau_lex.proofs.reader.Reader.read.Goals as goal
 
 -- what holds where a call is Ok
 on_ok : {T E A B C D G : Type 0} (r : Result T E) → OnOk r A → OnOk r B → OnOk r C → OnOk r D → (A → B → C → D → G) → OnOk r G
 on_ok (Ok x) a b c d f = f a b c d
 on_ok (Err e) a b c d f = tt
-
-pub returns-in-Gap-clause-ok : goal.returns-in-Gap-clause-ok
-returns-in-Gap-clause-ok c =
-    let s = c.args.self.now in
-    let new = c.skip.new.self in
-    let k = c.skip.ensures in
-    let is = ap (λ b. piece b s.at s.rest.now) (sym c.innermost.ensures) ∙ sym c.in-Gap.ensures.value in
-    ap (λ t. with_tokens (map seen_token t) (tokens_from new.opens.items 0 new.at new.rest.now)) k.tokens
-    ∙ gap_turn (map seen_token s.tokens.items) s.opens.items new.opens.items c.in-Gap.n s.at new.at s.rest.now new.rest.now c.in-Gap.ensures.within.0 c.requires.some is k.opens k.at k.rest
-
-pub returns-in-Found-clause-ok : goal.returns-in-Found-clause-ok
-returns-in-Found-clause-ok c =
-    let s = c.args.self.now in
-    let new = c.take.new.self in
-    let k = c.take.ensures in
-    let is = ap (λ b. piece b s.at s.rest.now) (sym c.innermost.ensures) ∙ sym c.in-Found.ensures.value in
-    on_ok c.take.result k.at k.rest k.opens k.tokens
-    (λ at rest opens tokens. found_turn (map seen_token s.tokens.items) (map seen_token new.tokens.items) s.opens.items new.opens.items c.in-Found.kind c.in-Found.n s.at new.at s.rest.now new.rest.now c.in-Found.ensures.within.0 c.requires.some is opens at rest tokens)
-
-pub returns-in-Faulty-clause-err : goal.returns-in-Faulty-clause-err
-returns-in-Faulty-clause-err c =
-    let s = c.args.self.now in
-    let is = ap (λ b. piece b s.at s.rest.now) (sym c.innermost.ensures) ∙ sym c.in-Faulty.ensures.value in
-    λ _. fault_turn (map seen_token s.tokens.items) s.opens.items c.in-Faulty.fault s.at s.rest.now c.requires.some is
 
 pub returns-in-Gap-clause-pieces : goal.returns-in-Gap-clause-pieces
 returns-in-Gap-clause-pieces c =
