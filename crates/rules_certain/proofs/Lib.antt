@@ -1,3 +1,4 @@
+pub mod Still
 pub mod Parts
 pub mod CallRuns
 pub mod ReportPlaces
