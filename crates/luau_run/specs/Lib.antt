@@ -12,3 +12,5 @@ pub mod Certain
 pub mod After
 pub mod Examples
 pub mod Forms
+pub mod Pieces
+pub mod ReadFolder
