@@ -51,7 +51,8 @@ pub fn nonstrict<T: Tree, S: Sink>(
 
     ensures same { T.contents tree.new ≡ T.contents tree.old }
 
-    // The reports of the checked modules, one for each argument line of the output, are certain.
+    // The reports of the checked modules, one for each argument line of the output, are certain, over whatever builtins
+    // of which `math.abs` is declared as a checked function of one number.
     ensures certain { IfSome (T.contents tree.old) (λ contents. IfSome (command (map string_bytes words.now)) (λ folder. ReportsAreCertain (contents folder))) }
 {
     match make_answer(alloc, words, tree) {
