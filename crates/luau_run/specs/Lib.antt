@@ -17,3 +17,5 @@ pub mod LoopRuns
 pub mod CallRuns
 pub mod ActRuns
 pub mod OperatorRuns
+pub mod CodePieces
+pub mod ReadFolder

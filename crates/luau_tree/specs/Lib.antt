@@ -2,4 +2,3 @@ pub mod Position
 pub mod Steps
 pub mod Tree
 pub mod View
-pub mod Exprs

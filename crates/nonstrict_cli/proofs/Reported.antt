@@ -7,12 +7,12 @@ use Rattle.luau_tree.specs.declared.names.Place.{Place}
 use Rattle.luau_tree.specs.declared.names.Place.TheVariants.{Expr as ExprPlace}
 use Rattle.luau_tree.specs.declared.position.Span.{Span}
 use Rattle.luau_tree.specs.Tree.{Block, more_stats, Expr, the_expr, Call, Index, NameExpr, more_exprs, no_exprs}
-use Rattle.luau_tree.specs.Exprs.{exprs_of, number_of, span_of, span_at}
+use Rattle.luau_run.specs.CodePieces.{of_block}
 use Rattle.rules_certain.specs.Literal.{Literal, NilLiteral, TruthLiteral, NumberLiteral, StrLiteral, is_number, kind_of}
 use Rattle.rules_certain.specs.Calls.{Written, stat_of, block_of, after_call}
 use Rattle.rules_certain.specs.Reports.{place, argument_of, reports_in}
 use Rattle.nonstrict_cli.specs.Form.{offsets_of, offset_of, offsets_at}
-use Rattle.nonstrict_cli.specs.Reported.{expr_start}
+use Rattle.nonstrict_cli.specs.Reported.{expr_start, exprs_in, number_of, span_of, span_at}
 
 -- a call with another literal
 abbrev with_literal : Written → Literal → Written
@@ -32,11 +32,11 @@ spans_of_four false false false false w x y z later = refl
 -- where an expression of a call's statement stands, or one behind it
 span_in_call : (n first : ℕ) (w : Written) (l : Literal) (rest : Block) → span_at (more_stats (stat_of first (with_literal w l)) rest) n
     ≡ first_of (first == n) (suc first == n) (suc (suc first) == n) (suc (suc (suc first)) == n) w.call w.callee w.library w.argument (span_at rest n)
-span_in_call n first w NilLiteral rest = spans_of_four (first == n) (suc first == n) (suc (suc first) == n) (suc (suc (suc first)) == n) _ _ _ _ (find (λ e. number_of e == n) (exprs_of rest))
-span_in_call n first w (TruthLiteral true) rest = spans_of_four (first == n) (suc first == n) (suc (suc first) == n) (suc (suc (suc first)) == n) _ _ _ _ (find (λ e. number_of e == n) (exprs_of rest))
-span_in_call n first w (TruthLiteral false) rest = spans_of_four (first == n) (suc first == n) (suc (suc first) == n) (suc (suc (suc first)) == n) _ _ _ _ (find (λ e. number_of e == n) (exprs_of rest))
-span_in_call n first w (NumberLiteral text) rest = spans_of_four (first == n) (suc first == n) (suc (suc first) == n) (suc (suc (suc first)) == n) _ _ _ _ (find (λ e. number_of e == n) (exprs_of rest))
-span_in_call n first w (StrLiteral bytes) rest = spans_of_four (first == n) (suc first == n) (suc (suc first) == n) (suc (suc (suc first)) == n) _ _ _ _ (find (λ e. number_of e == n) (exprs_of rest))
+span_in_call n first w NilLiteral rest = spans_of_four (first == n) (suc first == n) (suc (suc first) == n) (suc (suc (suc first)) == n) _ _ _ _ (find (λ e. number_of e == n) (exprs_in (of_block rest)))
+span_in_call n first w (TruthLiteral true) rest = spans_of_four (first == n) (suc first == n) (suc (suc first) == n) (suc (suc (suc first)) == n) _ _ _ _ (find (λ e. number_of e == n) (exprs_in (of_block rest)))
+span_in_call n first w (TruthLiteral false) rest = spans_of_four (first == n) (suc first == n) (suc (suc first) == n) (suc (suc (suc first)) == n) _ _ _ _ (find (λ e. number_of e == n) (exprs_in (of_block rest)))
+span_in_call n first w (NumberLiteral text) rest = spans_of_four (first == n) (suc first == n) (suc (suc first) == n) (suc (suc (suc first)) == n) _ _ _ _ (find (λ e. number_of e == n) (exprs_in (of_block rest)))
+span_in_call n first w (StrLiteral bytes) rest = spans_of_four (first == n) (suc first == n) (suc (suc first) == n) (suc (suc (suc first)) == n) _ _ _ _ (find (λ e. number_of e == n) (exprs_in (of_block rest)))
 
 same : (n : ℕ) → (n == n) ≡ true
 same n = grind (arith, nat_tests)

@@ -1,12 +1,12 @@
 -- What is claimed of the reports of a folder.
-use Rattle.std.specs.Prelude.{◌≡◌, ℕ, List, [], ◌∷◌, Option, None, Some, Result, Ok, Err, codes, flat_map, map}
+use Rattle.std.specs.Prelude.{ℕ, List, [], ◌∷◌, Option, None, Some, Result, Ok, Err, flat_map, map}
 use Rattle.luau_lex.specs.declared.token.LexError.{LexError}
 use Rattle.luau_lex.specs.Tokens.{Tok, tokens_of}
-use Rattle.luau_run.specs.Program.{Program, declaration}
+use Rattle.luau_run.specs.Program.{Program}
 use Rattle.luau_run.specs.Certain.{Certain}
-use Rattle.luau_run.specs.Examples.{abs}
 use Rattle.outside.specs.Contents.{File}
 use Rattle.rules_certain.specs.Calls.{Written, AllReadAs}
+use Rattle.rules_certain.specs.OneNumber.{DeclaresAbs}
 use Rattle.rules_certain.specs.Reports.{reports_of}
 use Rattle.nonstrict_cli.specs.Folder.{module_paths, refusal_of, source, text_behind_mark}
 use Rattle.nonstrict_cli.specs.Form.{calls_in}
@@ -44,7 +44,6 @@ checked_modules files = flat_map (checked_at files) (module_paths files)
 abbrev pub checked_of : List File → List (List Written)
 checked_of files = map (λ m. m.calls) (checked_modules files)
 
--- The reports of a folder are certain: of every program that its checked modules are read as, over whatever builtins of which `math.abs` keeps its declaration, no run reaches a literal that is reported and leaves its activation.
+-- The reports of a folder are certain: of every program that its checked modules are read as, over whatever builtins of which `math.abs` is declared as a checked function of one number, no run reaches a literal that is reported and leaves its activation.
 abbrev pub ReportsAreCertain : List File → Type 0
-ReportsAreCertain files = (program : Program) → declaration program.builtins (codes "math.abs") ≡ Some abs.signature
-    → AllReadAs (checked_of files) program.modules → Certain program (reports_of (checked_of files))
+ReportsAreCertain files = (program : Program) → DeclaresAbs program.builtins → AllReadAs (checked_of files) program.modules → Certain program (reports_of (checked_of files))

@@ -52,7 +52,8 @@ pub fn nonstrict<T: Tree, S: Sink>(
 
     ensures same { T.contents tree.new ≡ T.contents tree.old }
 
-    // The lines of the output that say what fails are those of the reports of the checked modules, and these are certain.
+    // The lines of the output that say what fails are those of the reports of the checked modules, and these are certain,
+    // over whatever builtins of which `math.abs` is declared as a checked function of one number.
     ensures reports { IfSome (T.contents tree.old) (λ contents. IfSome (command (map string_bytes words.now)) (λ folder. LinesAreReports (contents folder))) }
     ensures certain { IfSome (T.contents tree.old) (λ contents. IfSome (command (map string_bytes words.now)) (λ folder. ReportsAreCertain (contents folder))) }
 {

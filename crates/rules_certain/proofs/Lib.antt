@@ -1,3 +1,6 @@
+pub mod Still
+pub mod FolderOf
+pub mod Homes
 pub mod Parts
 pub mod CallRuns
 pub mod ReportPlaces

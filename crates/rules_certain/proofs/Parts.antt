@@ -2,7 +2,7 @@
 use Rattle.std.proofs.Common.{ℕ, zero, suc, List, [], ◌∷◌, ◌++◌, Contains}
 use Rattle.std.specs.Bool.{⊤}
 use Rattle.luau_tree.specs.declared.names.Place.{Place}
-use Rattle.luau_run.specs.Machine.{Event, Reach, Leave, Answer, State, Ran, Gave, Failed, Spent, Part, go_on, ◌>>=◌, step_of, step, Reply, Unfit, Fails, Fits, replied, asked, ask}
+use Rattle.luau_run.specs.Machine.{Event, Reach, Leave, Store, State, Ran, Gave, Failed, Spent, Part, go_on, ◌>>=◌, step_of, step}
 use Rattle.luau_run.specs.Certain.{IsNotLeft, StaysAt}
 
 -- no body ends
@@ -60,34 +60,12 @@ post_then P Q (Gave x t) next h k = k x t h
 post_then P Q (Failed t) next h k = h
 post_then P Q (Spent t) next h k = h
 
--- a step and what follows it, which begins with the same trace
-pub post_step : {B : Type 0} (Q : B → State → Type 0) (P : List Event → Type 0) (p : Part B) (s : State) → (NoLeave s.trace) → P s.trace
-    → ((t : State) → P t.trace → Post Q (p t)) → Post Q (◌>>=◌ step (λ _. p) s)
+-- a step and what follows it, which begins with the same trace and the same store
+pub post_step : {B : Type 0} (Q : B → State → Type 0) (P : Store → List Event → Type 0) (p : Part B) (s : State) → (NoLeave s.trace) → P s.store s.trace
+    → ((t : State) → P t.store t.trace → Post Q (p t)) → Post Q (◌>>=◌ step (λ _. p) s)
 unfolding ◌>>=◌ step
 post_step Q P p s n h k = by_steps s.steps
   where
     by_steps : (steps : ℕ) → Post Q (go_on (step_of steps s) (λ _. p))
     by_steps zero = n
     by_steps (suc steps) = k (record s { steps = steps }) h
-
--- what is said by a reply that fits
-abbrev pub Said : {A : Type 0} → (A → Type 0) → Reply A → Type 0
-Said Q Unfit = ⊤
-Said Q Fails = ⊤
-Said Q (Fits x) = Q x
-
--- an answer that is asked for, and what follows it, which begins with the same trace
-pub post_ask : {A B : Type 0} (reply : Answer → Reply A) (Q : A → Type 0) (R : B → State → Type 0) (P : List Event → Type 0) (next : A → Part B) (s : State)
-    → ((answer : Answer) → Said Q (reply answer)) → NoLeave s.trace → P s.trace
-    → ((x : A) (t : State) → Q x → P t.trace → Post R (next x t)) → Post R (◌>>=◌ (ask reply) next s)
-unfolding ◌>>=◌ ask
-post_ask {A} {B} reply Q R P next s fits n h k = by_tape s.tape
-  where
-    by_reply : (rest : List Answer) (r : Reply A) → Said Q r → Post R (go_on (replied r s (record s { tape = rest })) next)
-    by_reply rest Unfit q = n
-    by_reply rest Fails q = n
-    by_reply rest (Fits x) q = k x (record s { tape = rest }) q h
-
-    by_tape : (tape : List Answer) → Post R (go_on (asked reply tape s) next)
-    by_tape [] = n
-    by_tape (answer ∷ rest) = by_reply rest (reply answer) (fits answer)

@@ -1,15 +1,18 @@
 -- The runs of programs of calls: reports at literals that aren't numbers are certain.
-use Rattle.std.proofs.Common.{◌≡◌, ℕ, zero, suc, ◌+◌, ◌≤◌, Bool, true, false, if◌then◌else◌, List, [], ◌∷◌, length, Option, Some, None, slice_get, refl, sym, subst, arith, Contains, codes}
+use Rattle.std.proofs.Common.{◌≡◌, ℕ, zero, suc, ◌+◌, ◌≤◌, Bool, true, false, if◌then◌else◌, List, [], ◌∷◌, length, Option, Some, None, slice_get, refl, sym, subst, arith, Contains}
+use Rattle.luau_values.specs.Value.{Value, Nil, Truth, Num, Str, Tab, Lit, Builtin, Other}
+use Rattle.luau_values.specs.Heap.{Heap}
 use Rattle.luau_tree.specs.declared.names.Place.{Place}
 use Rattle.luau_tree.specs.Tree.{Block}
-use Rattle.luau_run.specs.Program.{Declared, declaration, ReadModule, Program}
+use Rattle.luau_run.specs.Program.{Declared, ReadModule, Program}
 use Rattle.luau_run.specs.Machine.{Leave, Answer, State, Ran, Gave, Failed, Spent, go_on, ◌>>=◌, give, spend, log, look, change, activate}
 use Rattle.luau_run.specs.Layer.{Frame, Ending}
 use Rattle.luau_run.specs.Calls.{block, frame_of, enter_module}
 use Rattle.luau_run.specs.Run.{layer_of, start, end_of}
 use Rattle.luau_run.specs.Certain.{StaysAt, Certain}
-use Rattle.luau_run.specs.Examples.{abs}
+use Rattle.luau_run.specs.Examples.{a_number, abs}
 use Rattle.rules_certain.specs.Literal.{Literal, is_number}
+use Rattle.rules_certain.specs.OneNumber.{is_num, DeclaresAbs}
 use Rattle.rules_certain.specs.Calls.{Written, after_call, block_of, use_in, ReadsAs, AllReadAs, modules_from, program_of}
 use Rattle.rules_certain.specs.Reports.{place, argument_of, reports_in, reports_of}
 use Rattle.rules_certain.specs.Examples.{modules_for, program_for, reports_for}
@@ -17,7 +20,7 @@ use Rattle.rules_certain.proofs.Parts.{Clear, no_leave_stays, clear_left_stays, 
 use Rattle.rules_certain.proofs.CallRuns.{AllFacts, block_runs}
 use Rattle.rules_certain.proofs.ReportPlaces.{reports_past, past_first, Found, found}
 
-module _ (program : Program) (declared : declaration program.builtins (codes "math.abs") ≡ Some abs.signature) (reports : List (ℕ × Place)) (at : ℕ) (reading : ReadModule) (no_require : (id : ℕ) → reading.required id ≡ None) where
+module _ (program : Program) (declared : DeclaresAbs program.builtins) (reports : List (ℕ × Place)) (at : ℕ) (reading : ReadModule) (no_require : (id : ℕ) → reading.required id ≡ None) where
   abbrev frame : ℕ → Frame
   frame activation = frame_of at reading [] activation
 
@@ -52,14 +55,14 @@ module _ (program : Program) (declared : declaration program.builtins (codes "ma
   )
 
 -- where its block ends, a module's body is left; nothing was reported then
-left_stays : (reports : List (ℕ × Place)) (r : Ran Ending) → Post (λ ending t. Clear reports t.trace) r
+left_stays : (reports : List (ℕ × Place)) (r : Ran Ending) → Post (λ ending t. Clear reports t.trace × (t.store.closures ≡ [])) r
     → StaysAt reports (end_of (go_on r (λ ending. ◌>>=◌ (log (Leave 0)) (λ (x : Unit {0}). give ending)))).trace
 unfolding ◌>>=◌ give log
-left_stays reports (Gave ending t) h = clear_left_stays reports t.trace 0 h
+left_stays reports (Gave ending t) h = clear_left_stays reports t.trace 0 h.0
 left_stays reports (Failed t) h = no_leave_stays reports t.trace h
 left_stays reports (Spent t) h = no_leave_stays reports t.trace h
 
-module _ (program : Program) (declared : declaration program.builtins (codes "math.abs") ≡ Some abs.signature) (reports : List (ℕ × Place)) where
+module _ (program : Program) (declared : DeclaresAbs program.builtins) (reports : List (ℕ × Place)) where
   -- the state in which the body of the entry module begins
   abbrev body_start : (steps : ℕ) → List Answer → State
   body_start steps tape = record (start program steps tape) { store = record (start program steps tape).store { begun = (start program steps tape).store.begun + 1 } }
@@ -74,9 +77,9 @@ module _ (program : Program) (declared : declaration program.builtins (codes "ma
       subst (λ (b : Block). StaysAt reports (end_of (go_on (block (layer_of program d) (frame_of at reading [] 0) b (body_start steps tape)) (λ ending. ◌>>=◌ (log (Leave 0)) (λ (x : Unit {0}). give ending)))).trace) (sym read.statements)
       (left_stays reports (block (layer_of program d) (frame_of at reading [] 0) (block_of 0 f.0) (body_start steps tape))
       (block_runs program reports declared d (frame_of at reading [] 0) 0 f.0 (body_start steps tape)
-      (facts_of program declared reports at reading read.no_require 0 0 f.0 (λ id. subst (λ (i : ℕ). reading.use_of i ≡ use_in f.0 id) (omega arith) (read.names id)) (λ id l c. f.2 id c)) tt))
+      (facts_of program declared reports at reading read.no_require 0 0 f.0 (λ id. subst (λ (i : ℕ). reading.use_of i ≡ use_in f.0 id) (omega arith) (read.names id)) (λ id l c. f.2 id c)) (tt, refl)))
 
-pub read_is_certain : (program : Program) (modules : List (List Written)) → declaration program.builtins (codes "math.abs") ≡ Some abs.signature
+pub read_is_certain : (program : Program) (modules : List (List Written)) → DeclaresAbs program.builtins
     → AllReadAs modules program.modules → Certain program (reports_of modules)
 read_is_certain program modules declared h entry steps tape =
     module_stays program declared (reports_of modules) (suc (steps + length tape)) entry steps tape (slice_get program.modules entry)
@@ -86,9 +89,19 @@ pub all_read : (home : ℕ) (modules : List (List Written)) → AllReadAs module
 all_read home [] = tt
 all_read home (calls ∷ modules) = (record { statements = refl; names = λ id. refl; no_require = λ id. refl }, all_read (suc home) modules)
 
-pub certain : (builtins : List Declared) (modules : List (List Written)) → declaration builtins (codes "math.abs") ≡ Some abs.signature
+pub certain : (builtins : List Declared) (modules : List (List Written)) → DeclaresAbs builtins
     → Certain (program_of builtins modules) (reports_of modules)
 certain builtins modules declared = read_is_certain (program_of builtins modules) modules declared (all_read 1 modules)
 
+of_number : (heap : Heap) (v : Value) → a_number heap v ≡ is_num v
+of_number heap (Num text) = refl
+of_number heap Nil = refl
+of_number heap (Truth truth) = refl
+of_number heap (Str bytes) = refl
+of_number heap (Tab address) = refl
+of_number heap (Lit home function cells) = refl
+of_number heap (Builtin path) = refl
+of_number heap (Other number) = refl
+
 pub one_is_certain : (literals : List Literal) → Certain (program_for literals) (reports_for literals)
-one_is_certain literals = certain (abs ∷ []) (modules_for literals) refl
+one_is_certain literals = certain (abs ∷ []) (modules_for literals) (refl, λ heap v. of_number heap v)

@@ -1,4 +1,5 @@
 pub mod Literal
+pub mod OneNumber
 pub mod Calls
 pub mod Reports
 pub mod Examples

@@ -1,26 +1,43 @@
 //! What is reported of modules of the built form, and that it is certain. Each law is the contract of a function that
 //! does nothing.
 
-ghost use Rattle.std.specs.Prelude.{◌≡◌, ◌↔◌, ◌<◌, ◌∷◌, [], ℕ, List, length, slice_get, Some, codes};
+ghost use Rattle.std.specs.Prelude.{◌≡◌, ◌↔◌, ◌<◌, ◌∷◌, [], ℕ, List, length, slice_get, Some};
 ghost use Rattle.std.specs.List.{Contains};
 ghost use Rattle.luau_tree.specs.declared.names.Place.{Place};
-ghost use Rattle.luau_run.specs.Program.{Declared, declaration, Program, ReadModule};
+ghost use Rattle.luau_run.specs.Program.{Declared, Program, ReadModule};
+ghost use Rattle.luau_run.specs.ReadFolder.{IsReadFolder, Requires};
 ghost use Rattle.luau_run.specs.Certain.{Certain};
 ghost use Rattle.luau_run.specs.Examples.{abs};
 ghost use Rattle.rules_certain.specs.Literal.{Literal};
+ghost use Rattle.rules_certain.specs.OneNumber.{DeclaresAbs};
 ghost use Rattle.rules_certain.specs.Calls.{Written, AllReadAs, program_of};
 ghost use Rattle.rules_certain.specs.Reports.{reports_of, AreNumbers, IsWrongLiteral};
 ghost use Rattle.rules_certain.specs.Examples.{program_for, reports_for, over_abs, report_at};
 
-/// Over whatever builtins of which `math.abs` is declared as checked, with a number as its one parameter: in no run of
-/// any of the modules is an activation left that reached a report, which is a literal that isn't a number.
+/// Over whatever builtins of which `math.abs` is declared as a checked function of one number, and whatever homes the
+/// modules have: in no run of any of them is an activation left that reached a report, which is a literal that isn't a
+/// number.
 #[tactic(auto, using(crate::proofs::RunOf::read_is_certain, crate::proofs::RunOf::certain, crate::proofs::RunOf::one_is_certain))]
 pub fn reports_certain()
-    ensures readings { (program : Program) (modules : List (List Written)) → declaration program.builtins (codes "math.abs") ≡ Some abs.signature
+    ensures readings { (program : Program) (modules : List (List Written)) → DeclaresAbs program.builtins
         → AllReadAs modules program.modules → Certain program (reports_of modules) }
-    ensures modules { (builtins : List Declared) (modules : List (List Written)) → declaration builtins (codes "math.abs") ≡ Some abs.signature
+    ensures modules { (builtins : List Declared) (modules : List (List Written)) → DeclaresAbs builtins
         → Certain (program_of builtins modules) (reports_of modules) }
     ensures one_module { (literals : List Literal) → Certain (program_for literals) (reports_for literals) }
+{}
+
+/// Over builtins of which `math.abs` is declared so, any modules of calls are read by a read folder.
+pub fn calls_have_a_read_folder()
+    ensures { (builtins : List Declared) (modules : List (List Written)) → DeclaresAbs builtins
+        → IsReadFolder (program_of builtins modules) × AllReadAs modules (program_of builtins modules).modules }
+{}
+
+/// In a read folder a home tells the module, no home is 0, and no module requires itself.
+pub fn homes_tell_modules()
+    ensures home { (program : Program) (i j : ℕ) (one other : ReadModule) → IsReadFolder program → slice_get program.modules i ≡ Some one
+        → slice_get program.modules j ≡ Some other → one.home ≡ other.home → i ≡ j }
+    ensures not_zero { (program : Program) (i : ℕ) (one : ReadModule) → IsReadFolder program → slice_get program.modules i ≡ Some one → one.home ≡ 0 → ⊥ }
+    ensures not_itself { (program : Program) (at : ℕ) → IsReadFolder program → Requires program at at → ⊥ }
 {}
 
 /// What is reported are exactly the literals that aren't numbers, each at its own place.

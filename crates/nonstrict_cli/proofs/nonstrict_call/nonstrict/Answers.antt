@@ -1,5 +1,7 @@
 use Rattle.std.proofs.Common.{Err, map, string_bytes, ap}
+use Rattle.nonstrict_cli.proofs.CertainReports.{reports_are_certain}
 use Rattle.nonstrict_cli.proofs.Ends.{answer_ends_well, ended_bytes, ended_status, stop_ends_well, not_read_fault, not_silent, not_usage, not_write_fault}
+use Rattle.nonstrict_cli.specs.Command.{command}
 use Rattle.nonstrict_cli.proofs.nonstrict_call.nonstrict.Goals as goal
 
 pub returns-in-Err-clause-status : goal.returns-in-Err-clause-status
@@ -30,3 +32,6 @@ returns-in-Err-clause-complete g c =
 pub returns-then-write_whole-clause-complete : goal.returns-then-write_whole-clause-complete
 returns-then-write_whole-clause-complete g c =
     answer_ends_well g.S.Sink.written (map string_bytes c.args.words.now) (g.T.Tree.contents c.args.tree.now) c.in-Ok.answer c.args.sink.now c.write_whole.new.sink _ _ c.in-Ok.ensures.answer (rw (← c.as_slice.ensures.value) c.if-write_whole.ensures.whole)
+
+pub returns-then-write_whole-clause-certain : goal.returns-then-write_whole-clause-certain
+returns-then-write_whole-clause-certain g c = reports_are_certain (g.T.Tree.contents c.args.tree.now) (command (map string_bytes c.args.words.now))
