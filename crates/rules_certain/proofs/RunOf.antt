@@ -10,7 +10,7 @@ use Rattle.luau_run.specs.Layer.{Frame, Ending}
 use Rattle.luau_run.specs.Calls.{block, frame_of, enter_module}
 use Rattle.luau_run.specs.Run.{layer_of, start, end_of}
 use Rattle.luau_run.specs.Certain.{StaysAt, Certain}
-use Rattle.luau_run.specs.Examples.{a_number, abs}
+use Rattle.luau_run.specs.Examples.{number_type, abs}
 use Rattle.rules_certain.specs.Literal.{Literal, is_number}
 use Rattle.rules_certain.specs.OneNumber.{is_num, DeclaresAbs}
 use Rattle.rules_certain.specs.Calls.{Written, after_call, block_of, use_in, ReadsAs, AllReadAs, modules_from, program_of}
@@ -93,7 +93,7 @@ pub certain : (builtins : List Declared) (modules : List (List Written)) → Dec
     → Certain (program_of builtins modules) (reports_of modules)
 certain builtins modules declared = read_is_certain (program_of builtins modules) modules declared (all_read 1 modules)
 
-of_number : (heap : Heap) (v : Value) → a_number heap v ≡ is_num v
+of_number : (heap : Heap) (v : Value) → number_type heap v ≡ is_num v
 of_number heap (Num text) = refl
 of_number heap Nil = refl
 of_number heap (Truth truth) = refl
