@@ -2,9 +2,14 @@ pub mod BracketLemmas
 pub mod FormLemmas
 pub mod GapLemmas
 pub mod GrammarLemmas
+pub mod InsideLemmas
+pub mod LongLemmas
 pub mod LongestLemmas
+pub mod MeaningLemmas
 pub mod NameLemmas
 pub mod OrderLemmas
 pub mod ReadingLemmas
+pub mod RefuseLemmas
 pub mod SignLemmas
+pub mod SpellingLemmas
 pub mod StringLemmas

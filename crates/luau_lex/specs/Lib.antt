@@ -10,3 +10,4 @@ pub mod Values
 pub mod Reading
 pub mod Grammar
 pub mod Forms
+pub mod Spellings

@@ -1,12 +1,13 @@
 //! What follows from the token grammar: laws of the definitions alone, for every text.
-ghost use Rattle.std.specs.Prelude.{◌≡◌, ◌≢◌, ℕ, ◌<◌, ◌≤◌, ◌&&◌, true, false, List, Result, Ok, Some, take, drop, length, slice_index};
+ghost use Rattle.std.specs.Prelude.{◌≡◌, ◌≢◌, ℕ, ◌<◌, ◌≤◌, ◌&&◌, true, false, List, Result, Ok, Some, take, drop, length, slice_index, codes};
 ghost use Rattle.std.specs.List.{prefix_len};
 ghost use Rattle.luau_lex.specs.declared.token.LexError.{LexError};
 ghost use Rattle.luau_lex.specs.Bytes.{is_blank, is_name_start, is_name_byte};
 ghost use Rattle.luau_lex.specs.Brackets.{closes, closing_place};
 ghost use Rattle.luau_lex.specs.Signs.{sign_len, is_sign};
 ghost use Rattle.luau_lex.specs.Tokens.{Tok, tokens_of, first_line_len};
-ghost use Rattle.luau_lex.specs.Forms.{HaveForms, StandApart};
+ghost use Rattle.luau_lex.specs.declared.token.Kind.TheVariants.{Quoted, Long, Whole};
+ghost use Rattle.luau_lex.specs.Forms.{HasForm, HaveForms, IsLineComment, IsLongComment, StandApart};
 ghost use Rattle.luau_lex.specs.Grammar.{HasTokens, StandInOrder, Longest, is_blanks, is_name};
 
 /// A text has one list of tokens, or one first fault, and not both.
@@ -62,4 +63,13 @@ pub fn tokens_have_their_forms()
 pub fn gaps_are_blanks_and_comments()
     ensures { (text : List ℕ) (ts : List Tok) → HasTokens text (Ok ts) →
         StandApart (first_line_len text) (drop (first_line_len text) text) ts }
+{}
+
+/// What goes on behind its end is of no form, and a long bracket opens no comment to the end of its line.
+pub fn forms_end_where_they_close()
+    ensures two_strings { HasForm Quoted (codes "\"a\" \"b\"") → ⊥ }
+    ensures two_long_strings { HasForm Long (codes "[[a]] x [[b]]") → ⊥ }
+    ensures two_parts { HasForm Whole (codes "`a{b}c`") → ⊥ }
+    ensures two_comments { IsLongComment (codes "--[[a]] x --[[b]]") → ⊥ }
+    ensures comment_that_opens { (behind : List ℕ) → IsLineComment (codes "--[[a]] x") behind → ⊥ }
 {}
