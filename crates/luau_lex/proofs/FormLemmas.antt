@@ -89,7 +89,7 @@ or_right : (a b : Bool) → b ≡ true → a || b ≡ true
 or_right true b h = refl
 or_right false b h = h
 
-not_none : (m : ℕ) → eqb m 0 ≡ false → 0 < m
+pub not_none : (m : ℕ) → eqb m 0 ≡ false → 0 < m
 not_none zero h = absurd (cc)
 not_none (suc m) h = omega arith
 
@@ -103,7 +103,7 @@ quote_form mark bytes h m =
     (λ is. inl (subst (λ k. IsMarked k k k bytes) (eqb-true mark double_quote is) m))
     (λ is. inr (subst (λ k. IsMarked k k k bytes) (eqb-true mark single_quote is) m))
 
-quote_some : (mark : ℕ) → (eqb mark double_quote || eqb mark single_quote) ≡ true → 0 < mark
+pub quote_some : (mark : ℕ) → (eqb mark double_quote || eqb mark single_quote) ≡ true → 0 < mark
 quote_some mark h =
     or_at (eqb mark double_quote) (eqb mark single_quote) h
     (λ is. omega (arith, eqb-true mark double_quote is)) (λ is. omega (arith, eqb-true mark single_quote is))
@@ -165,7 +165,7 @@ sign_form at text kind n is =
     (λ some same. form_at Sign kind m n text same (sign_longest text (not_none m some)).whole)
 
 -- numerals
-begins_byte : (x : ℕ) (l : List ℕ) → begins_numeral (x ∷ l) ≡ true → is_numeral_byte x ≡ true
+pub begins_byte : (x : ℕ) (l : List ℕ) → begins_numeral (x ∷ l) ≡ true → is_numeral_byte x ≡ true
 begins_byte x l h =
     or_at (is_ascii_digit x) (eqb x dot && is_ascii_digit (slice_index (x ∷ l) 1)) h
     (λ digit. ap (λ t. (t || eqb x 95) || eqb x dot) digit)

@@ -1,4 +1,5 @@
 pub mod BracketLemmas
+pub mod ExistLemmas
 pub mod FormLemmas
 pub mod GapLemmas
 pub mod GrammarLemmas

@@ -16,6 +16,11 @@ pub fn tokens_unique()
         HasTokens text r → HasTokens text s → r ≡ s }
 {}
 
+/// Each text has what `tokens_of` computes: its tokens, or its first fault.
+pub fn tokens_exist()
+    ensures { (text : List ℕ) → HasTokens text (tokens_of text) }
+{}
+
 /// What a text has is what `tokens_of` computes.
 pub fn tokens_compute()
     ensures { (text : List ℕ) (r : Result (List Tok) LexError) → HasTokens text r → tokens_of text ≡ r }
