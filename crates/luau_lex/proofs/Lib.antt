@@ -14,3 +14,4 @@ pub mod RefuseLemmas
 pub mod SignLemmas
 pub mod SpellingLemmas
 pub mod StringLemmas
+pub mod ValueLemmas

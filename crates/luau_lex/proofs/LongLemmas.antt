@@ -69,7 +69,7 @@ length_replicate : (b n : ℕ) → length (replicate n b) ≡ n
 length_replicate b zero = refl
 length_replicate b (suc n) = omega (arith, length_replicate b n)
 
-signs_in : (b n : ℕ) (behind : List ℕ) → eqb b equals ≡ false → equals_len (replicate n equals ++ b ∷ behind) ≡ n
+pub signs_in : (b n : ℕ) (behind : List ℕ) → eqb b equals ≡ false → equals_len (replicate n equals ++ b ∷ behind) ≡ n
 signs_in b n behind other = run_exact (λ x. eqb x equals) (replicate n equals) (b ∷ behind) (all_replicate (λ x. eqb x equals) equals n refl) other ∙ length_replicate equals n
 
 last_in : (b n : ℕ) (behind : List ℕ) → get_or (replicate n equals ++ b ∷ behind) n 0 ≡ b

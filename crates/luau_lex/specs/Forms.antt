@@ -27,9 +27,13 @@ abbrev pub ClosesFirst : ℕ → List ℕ → Type 0
 ClosesFirst signs body =
     (before behind : List ℕ) → body ++ bracket_of closing_bracket signs ≡ before ++ (bracket_of closing_bracket signs ++ behind) → length body ≤ length before
 
--- long brackets of this level around a body
+-- a body in long brackets of this level
+abbrev pub in_brackets : ℕ → List ℕ → List ℕ
+in_brackets signs body = bracket_of bracket signs ++ (body ++ bracket_of closing_bracket signs)
+
+-- the bytes are a body in long brackets of this level
 abbrev pub IsLong : ℕ → List ℕ → List ℕ → Type 0
-IsLong signs body bytes = (bytes ≡ bracket_of bracket signs ++ (body ++ bracket_of closing_bracket signs)) × ClosesFirst signs body
+IsLong signs body bytes = (bytes ≡ in_brackets signs body) × ClosesFirst signs body
 
 -- the bytes are of the form of this kind
 abbrev pub HasForm : Kind → List ℕ → Type 0
