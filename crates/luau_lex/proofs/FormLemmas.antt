@@ -35,7 +35,7 @@ pub choose : {C : Type 0} (t : Bool) (x y z : Piece) → cond t x y ≡ z → (t
 choose true x y z h f g = f refl h
 choose false x y z h f g = g refl h
 
-unless_found : {C : Type 0} (at : ℕ) (o : Option ℕ) (p : Piece) (kind : Kind) (n : ℕ) → unless_malformed at o p ≡ Found kind n → (o ≡ None → p ≡ Found kind n → C) → C
+pub unless_found : {C : Type 0} (at : ℕ) (o : Option ℕ) (p : Piece) (kind : Kind) (n : ℕ) → unless_malformed at o p ≡ Found kind n → (o ≡ None → p ≡ Found kind n → C) → C
 unless_found at None p kind n h f = f refl h
 unless_found at (Some k) p kind n h f = absurd (cc)
 
@@ -62,7 +62,7 @@ name_form text kind n starts is =
     form_at (name_kind (take m text)) kind m n text is (name_kind_form (take m text) (name_longest text starts).whole)
 
 -- strings between marks
-begins_with : (last : ℕ) (text : List ℕ) → 0 < last → slice_index text 0 ≡ last → text ≡ last ∷ drop 1 text
+pub begins_with : (last : ℕ) (text : List ℕ) → 0 < last → slice_index text 0 ≡ last → text ≡ last ∷ drop 1 text
 begins_with last [] least is = absurd (omega (arith, is))
 begins_with last (b ∷ text) least is = ap (λ k. k ∷ text) is
 
@@ -93,7 +93,7 @@ pub not_none : (m : ℕ) → eqb m 0 ≡ false → 0 < m
 not_none zero h = absurd (cc)
 not_none (suc m) h = omega arith
 
-or_at : (a b : Bool) {C : Type 0} → a || b ≡ true → (a ≡ true → C) → (b ≡ true → C) → C
+pub or_at : (a b : Bool) {C : Type 0} → a || b ≡ true → (a ≡ true → C) → (b ≡ true → C) → C
 or_at true b h f g = f refl
 or_at false b h f g = g h
 
@@ -211,7 +211,7 @@ unfolding long_comment_of
 long_no_token None signs at kind n is = absurd (cc)
 long_no_token (Some place) signs at kind n is = absurd (cc)
 
-comment_no_token : (o : Option ℕ) (at : ℕ) (text : List ℕ) (kind : Kind) (n : ℕ) {C : Type 0} → comment_of o at text ≡ Found kind n → C
+pub comment_no_token : (o : Option ℕ) (at : ℕ) (text : List ℕ) (kind : Kind) (n : ℕ) {C : Type 0} → comment_of o at text ≡ Found kind n → C
 unfolding comment_of
 comment_no_token None at text kind n is = absurd (cc)
 comment_no_token (Some signs) at text kind n is = long_no_token (closing_place signs (drop (signs + 4) text)) signs at kind n is

@@ -6,12 +6,16 @@ pub mod GrammarLemmas
 pub mod InsideLemmas
 pub mod LongLemmas
 pub mod LongestLemmas
+pub mod LongestTokenLemmas
 pub mod MeaningLemmas
 pub mod NameLemmas
 pub mod OrderLemmas
+pub mod PlaceLemmas
 pub mod ReadingLemmas
 pub mod RefuseLemmas
 pub mod SignLemmas
 pub mod SpellingLemmas
 pub mod StringLemmas
+pub mod TokenLemmas
 pub mod ValueLemmas
+pub mod WordLemmas

@@ -11,3 +11,5 @@ pub mod Reading
 pub mod Grammar
 pub mod Forms
 pub mod Spellings
+pub mod Braces
+pub mod LongestTokens

@@ -11,6 +11,8 @@ ghost use Rattle.luau_lex.specs.Strings.{digit_number, number_in, utf8_scheme};
 ghost use Rattle.luau_lex.specs.Spellings.{Spelling, written, AreSpellings, stand_for};
 ghost use Rattle.luau_lex.specs.Tokens.{Tok, tokens_of, first_line_len};
 ghost use Rattle.luau_lex.specs.Forms.{HasForm, HaveForms, IsLineComment, IsLongComment, StandApart, in_brackets};
+ghost use Rattle.luau_lex.specs.Braces.{MatchBraces};
+ghost use Rattle.luau_lex.specs.LongestTokens.{AreLongest};
 ghost use Rattle.luau_lex.specs.Grammar.{HasTokens, StandInOrder, Longest, is_blanks, is_name};
 ghost use Rattle.luau_lex.specs.Values.{with_line_feeds, string_value};
 
@@ -33,6 +35,17 @@ pub fn tokens_compute()
 /// The tokens of a text stand in order in it, each with the bytes at its place.
 pub fn tokens_in_order()
     ensures { (text : List ℕ) (ts : List Tok) → HasTokens text (Ok ts) → StandInOrder 0 text ts }
+{}
+
+/// No token of a text could be longer at its place.
+pub fn tokens_are_longest()
+    ensures { (text : List ℕ) (ts : List Tok) → HasTokens text (Ok ts) →
+        AreLongest [] (first_line_len text) (drop (first_line_len text) text) ts }
+{}
+
+/// A closing brace goes on with an interpolated string exactly where the innermost open brace is one's.
+pub fn braces_match()
+    ensures { (text : List ℕ) (ts : List Tok) → HasTokens text (Ok ts) → MatchBraces [] ts }
 {}
 
 /// A name goes as far as it can.
