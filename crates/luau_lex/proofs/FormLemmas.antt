@@ -1,10 +1,8 @@
 -- Each token that stands in a text has the form of its kind.
-use Rattle.std.proofs.Common.{◌≡◌, ℕ, zero, suc, ◌+◌, ◌<◌, ◌≤◌, Bool, true, false, ◌&&◌, ◌||◌, inl, inr, eqb, cond, List, [], ◌∷◌, ◌++◌, length, take, drop, get_or, slice_index, flat_map, add-zero, Result, Ok, Err, Option, Some, None, sym, refl, ap, subst, ◌∙◌, arith}
+use Rattle.std.proofs.Common.{◌≡◌, ℕ, zero, suc, ◌+◌, ◌<◌, ◌≤◌, Bool, true, false, ◌&&◌, ◌||◌, inl, inr, eqb, cond, List, [], ◌∷◌, ◌++◌, length, take, drop, get_or, slice_index, flat_map, Result, Ok, Err, Option, Some, None, sym, refl, ap, subst, ◌∙◌, arith}
 use Rattle.std.specs.List.{prefix_len}
 use Rattle.std.specs.Char.{is_ascii_digit}
-use Rattle.std.proofs.Math.Seq.{take-append_seam}
 use Rattle.std.proofs.lemmas.Bool.{eqb-true}
-use Rattle.std.proofs.lemmas.List.{get_or-append-add}
 use Rattle.luau_lex.specs.declared.token.Kind.{Kind}
 use Rattle.luau_lex.specs.declared.token.Kind.TheVariants.{Name, Word, Numeral, Quoted, Long, Whole, Begin, Mid, End, Sign}
 use Rattle.luau_lex.specs.declared.token.LexError.{LexError}
@@ -24,7 +22,7 @@ use Rattle.luau_lex.specs.Grammar.{Reads, HasTokens, is_name}
 use Rattle.luau_lex.specs.Forms.{IsMarked, IsLong, HasForm, HaveForms}
 use Rattle.luau_lex.specs.Spellings.{written, AreSpellings}
 use Rattle.luau_lex.proofs.SpellingLemmas.{and_at}
-use Rattle.luau_lex.proofs.InsideLemmas.{inside_spelled}
+use Rattle.luau_lex.proofs.InsideLemmas.{inside_spelled, inside_front, inside_end}
 use Rattle.luau_lex.proofs.MeaningLemmas.{narrow_all, malformed_spelled, none_malformed}
 use Rattle.luau_lex.proofs.LongLemmas.{take_marked, long_here}
 use Rattle.luau_lex.proofs.LongestLemmas.{name_longest, run_some}
@@ -72,11 +70,8 @@ marked mark last [] some least is good = absurd (omega arith)
 marked mark last (x ∷ text) some least is good =
     let r = inside_spelled mark text in
     let inside = flat_map written r.inside in
-    let front : take (inside_len mark text) text ≡ inside = ap (λ k. take k text) r.len ∙ ap (take (length inside)) r.whole ∙ take-append_seam inside r.behind in
-    let next : slice_index r.behind 0 ≡ last =
-    sym (get_or-append-add inside r.behind 0 0)
-    ∙ ap (λ n. get_or (inside ++ r.behind) n 0) (add-zero (length inside) ∙ sym r.len)
-    ∙ ap (λ l. get_or l (inside_len mark text) 0) (sym r.whole) ∙ is in
+    let front = inside_front mark text r in
+    let next : slice_index r.behind 0 ≡ last = inside_end mark text r ∙ is in
     let behind : r.behind ≡ last ∷ drop 1 r.behind = begins_with last r.behind least next in
     let none : malformed_at inside ≡ None = ap malformed_at (sym front) ∙ good in (
       r.inside,
@@ -186,14 +181,14 @@ take_none : (n : ℕ) → ◌≡◌ {A = List ℕ} (take n []) []
 take_none zero = refl
 take_none (suc n) = refl
 
-begins_front : (text : List ℕ) (n : ℕ) → prefix_len is_numeral_byte text ≤ n → begins_numeral text ≡ true → begins_numeral (take n text) ≡ true
+pub begins_front : (text : List ℕ) (n : ℕ) → prefix_len is_numeral_byte text ≤ n → begins_numeral text ≡ true → begins_numeral (take n text) ≡ true
 begins_front [] n most h = absurd (cc)
 begins_front (x ∷ l) zero most h = absurd (omega (arith, most, run_some is_numeral_byte (x ∷ l) refl (begins_byte x l h)))
 begins_front (x ∷ []) (suc n) most h = ap (λ l. begins_numeral (x ∷ l)) (take_none n) ∙ h
 begins_front (x ∷ y ∷ l) (suc zero) most h = digit_first x y l most h
 begins_front (x ∷ y ∷ l) (suc (suc n)) most h = h
 
-digits_most : (text : List ℕ) → prefix_len is_numeral_byte text ≤ numeral_len text
+pub digits_most : (text : List ℕ) → prefix_len is_numeral_byte text ≤ numeral_len text
 unfolding numeral_len
 digits_most text = omega arith
 

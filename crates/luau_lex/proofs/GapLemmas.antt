@@ -22,7 +22,7 @@ use Rattle.luau_lex.specs.Strings.{inside_len, malformed_at}
 use Rattle.luau_lex.specs.Pieces.{name_piece, numeral_piece, unless_malformed, quoted_piece, part_piece, long_len, long_of, long_piece, long_comment_of, comment_of, comment_piece, sign_piece, bracket_or_sign, part_open, innermost, closing_piece, other_piece, piece, opens_behind}
 use Rattle.luau_lex.specs.Tokens.{Tok, token_at, with_token, first_line_len}
 use Rattle.luau_lex.specs.Grammar.{Reads, HasTokens, StandInOrder}
-use Rattle.luau_lex.specs.Forms.{EndsLine, IsGapPart, IsGapOf, StandApart}
+use Rattle.luau_lex.specs.Forms.{EndsLine, IsGapPart, IsGapOf, IsGap, StandApart}
 use Rattle.luau_lex.proofs.LongestLemmas.{blanks_longest, run_all}
 
 -- what is no gap
@@ -202,25 +202,33 @@ piece_gap open_brace at text n is =
     (λ _ h. quoted_no_gap at text n h)
     (λ _ h. other_gap open_brace at text n h))))
 
+-- a gap behind a part of one
+pub gap_behind : (n k : ℕ) (text : List ℕ) → IsGapPart (take n text) (drop n text) → IsGap (take k (drop n text)) (drop k (drop n text)) → IsGap (take (n + k) text) (drop (n + k) text)
+gap_behind n k text form h =
+    let rest = take k (drop n text) in
+    let left = drop-drop k n text in (
+      take n text ∷ h.0,
+      (
+        rest,
+        subst (IsGapPart (take n text)) (sym (take-append-drop k (drop n text)) ∙ ap (λ l. rest ++ l) left) form,
+        take-add n k text,
+        subst (IsGapOf h.0 rest) left h.1,
+      ),
+    )
+
+-- the gap before a token behind a part of one
+pub gap_before : (at n start : ℕ) (text : List ℕ) → at + n ≤ start → IsGapPart (take n text) (drop n text) → IsGap (take (start - (at + n)) (drop n text)) (drop (start - (at + n)) (drop n text)) → IsGap (take (start - at) text) (drop (start - at) text)
+gap_before at n start text order form h =
+    let far : n + (start - (at + n)) ≡ start - at = omega arith in
+    subst (λ k. IsGap (take k text) (drop k text)) far (gap_behind n (start - (at + n)) text form h)
+
 -- tokens that stand apart behind a gap
 apart_behind : (at n : ℕ) (text : List ℕ) (ts : List Tok) → IsGapPart (take n text) (drop n text) → StandInOrder (at + n) (drop n text) ts → StandApart (at + n) (drop n text) ts → StandApart at text ts
 apart_behind at n text [] form order h = (take n text ∷ h.0, (drop n text, subst (IsGapPart (take n text)) (sym (append-nil (drop n text))) form, sym (take-append-drop n text), h.1))
-apart_behind at n text (t ∷ ts) form order h =
-    let k = t.span.start - (at + n) in
-    let far : t.span.start - at ≡ n + k = omega (arith, order.0) in
-    let rest = drop n text in
-    let left = left_behind at n t.span.start text order.0 in (
-      (
-        take n text ∷ h.0.0,
-        (
-          take k rest,
-          subst (IsGapPart (take n text)) (sym (take-append-drop k rest) ∙ ap (λ l. take k rest ++ l) left) form,
-          ap (λ j. take j text) far ∙ take-add n k text,
-          subst (IsGapOf h.0.0 (take k rest)) left h.0.1,
-        ),
-      ),
-      subst (λ l. StandApart t.span.end l ts) (left_behind at n t.span.end text (omega (arith, order.0, order.1))) h.1,
-    )
+apart_behind at n text (t ∷ ts) form order h = (
+  gap_before at n t.span.start text order.0 form h.0,
+  subst (λ l. StandApart t.span.end l ts) (left_behind at n t.span.end text (omega (arith, order.0, order.1))) h.1,
+)
 
 apart_token : (kind : Kind) (at n : ℕ) (text : List ℕ) (ts : List Tok) → StandApart (at + n) (drop n text) ts → StandApart at text (token_at kind n at text ∷ ts)
 apart_token kind at n text ts h =

@@ -1,11 +1,11 @@
 -- The inside of a string is cut into its spellings, and each list of spellings is cut so.
-use Rattle.std.proofs.Common.{◌≡◌, ◌≢◌, ◌⊎◌, inl, inr, ℕ, zero, suc, ◌+◌, ◌<◌, ◌≤◌, min, Bool, true, false, ◌&&◌, ◌||◌, eqb, cond, List, [], ◌∷◌, ◌++◌, length, take, drop, slice_index, flat_map, sym, refl, ap, subst, ◌∙◌, arith, append_assoc, ne_eqb, eq-eqb, eqb-true, length-append, length-take-le}
+use Rattle.std.proofs.Common.{◌≡◌, ◌≢◌, ◌⊎◌, inl, inr, ℕ, zero, suc, ◌+◌, ◌<◌, ◌≤◌, min, Bool, true, false, ◌&&◌, ◌||◌, eqb, cond, List, [], ◌∷◌, ◌++◌, length, take, drop, get_or, slice_index, flat_map, sym, refl, ap, subst, ◌∙◌, arith, append_assoc, add-zero, ne_eqb, eq-eqb, eqb-true, length-append, length-take-le}
 use Rattle.std.specs.List.{prefix_len, list_all}
 use Rattle.std.specs.Char.{is_ascii_digit, is_ascii_hexdigit}
 use Rattle.std.proofs.str.Laws.{order}
-use Rattle.std.proofs.Math.Seq.{drop-append_seam}
+use Rattle.std.proofs.Math.Seq.{take-append_seam, drop-append_seam}
 use Rattle.std.proofs.lemmas.Bool.{eqb-false}
-use Rattle.std.proofs.lemmas.List.{take-append-drop}
+use Rattle.std.proofs.lemmas.List.{take-append-drop, get_or-append-add}
 use Rattle.std.proofs.lemmas.List.Sums.{prefix_len-le-length}
 use Rattle.luau_lex.specs.Bytes.{line_feed, carriage_return, backslash, backquote, brace, closing_brace, is_blank}
 use Rattle.luau_lex.specs.Strings.{Element, number_in, ends_inside, inside_len}
@@ -19,7 +19,7 @@ pub case_of : {C : Type 0} (t : Bool) → (t ≡ true → C) → (t ≡ false �
 case_of true f g = f refl
 case_of false f g = g refl
 
-or_false : {C : Type 0} (a b : Bool) → a || b ≡ false → (a ≡ false → b ≡ false → C) → C
+pub or_false : {C : Type 0} (a b : Bool) → a || b ≡ false → (a ≡ false → b ≡ false → C) → C
 or_false true b h f = absurd (cc)
 or_false false b h f = f refl h
 
@@ -228,6 +228,23 @@ inside_within (suc fuel) mark (b ∷ text) most =
 -- the inside of a string is cut into spellings
 pub inside_spelled : (mark : ℕ) (text : List ℕ) → Inside mark text
 inside_spelled mark text = inside_within (length text) mark text (omega arith)
+
+-- the bytes of the inside
+pub inside_front : (mark : ℕ) (text : List ℕ) (r : Inside mark text) → take (inside_len mark text) text ≡ flat_map written r.inside
+inside_front mark text r =
+    let inside = flat_map written r.inside in
+    ap (λ k. take k text) r.len ∙ ap (take (length inside)) r.whole ∙ take-append_seam inside r.behind
+
+-- the bytes behind it
+pub inside_left : (mark : ℕ) (text : List ℕ) (r : Inside mark text) (n : ℕ) → slice_index r.behind n ≡ slice_index text (inside_len mark text + n)
+inside_left mark text r n =
+    let inside = flat_map written r.inside in
+    sym (get_or-append-add inside r.behind n 0)
+    ∙ ap (λ k. get_or (inside ++ r.behind) (k + n) 0) (sym r.len)
+    ∙ ap (λ l. get_or l (inside_len mark text + n) 0) (sym r.whole)
+
+pub inside_end : (mark : ℕ) (text : List ℕ) (r : Inside mark text) → slice_index r.behind 0 ≡ slice_index text (inside_len mark text)
+inside_end mark text r = inside_left mark text r 0 ∙ ap (slice_index text) (add-zero (inside_len mark text))
 
 backslash_goes : (mark : ℕ) → mark ≢ backslash → ends_inside mark backslash ≡ false
 backslash_goes mark other = goes_so mark backslash (λ same. other (sym same), (λ same. omega (arith, same)), (λ same. omega (arith, same)), λ _ same. omega (arith, same))

@@ -1,5 +1,6 @@
 pub mod BracketLemmas
 pub mod ExistLemmas
+pub mod FaultLemmas
 pub mod FormLemmas
 pub mod GapLemmas
 pub mod GrammarLemmas
@@ -15,6 +16,7 @@ pub mod ReadingLemmas
 pub mod RefuseLemmas
 pub mod SignLemmas
 pub mod SpellingLemmas
+pub mod StopLemmas
 pub mod StringLemmas
 pub mod TokenLemmas
 pub mod ValueLemmas

@@ -147,7 +147,7 @@ goes_first Whole bytes goes form = absurd (cc)
 goes_first Begin bytes goes form = absurd (cc)
 goes_first Sign bytes goes form = absurd (cc)
 
-may_stand : (braces : List Open) (at : ℕ) (text : List ℕ) (kind : Kind) (n : ℕ) → 0 < length text → 1 ≤ n → piece (innermost (outward braces)) at text ≡ Found kind n → MayStand braces kind
+pub may_stand : (braces : List Open) (at : ℕ) (text : List ℕ) (kind : Kind) (n : ℕ) → 0 < length text → 1 ≤ n → piece (innermost (outward braces)) at text ≡ Found kind n → MayStand braces kind
 may_stand braces at text kind n some least is goes =
     let ob = innermost (outward braces) in
     let first : slice_index text 0 ≡ closing_brace = front_byte text n closing_brace (goes_first kind (take n text) goes (piece_form ob at text kind n some is)) least in
@@ -155,7 +155,7 @@ may_stand braces at text kind n some least is goes =
     let found = sym (at_closing ob at (drop 1 text)) ∙ ap (piece ob at) (sym whole) ∙ is in
     ap is_some (sym (innermost_is braces)) ∙ goes_at (part_open ob) at (closing_brace ∷ drop 1 text) kind n found goes
 
-sign_stands : (braces : List Open) (at : ℕ) (text : List ℕ) (kind : Kind) (n : ℕ) → 1 ≤ n → piece (innermost (outward braces)) at text ≡ Found kind n → kind ≡ Sign → slice_index (take n text) 0 ≡ closing_brace → string_open braces ≡ None
+pub sign_stands : (braces : List Open) (at : ℕ) (text : List ℕ) (kind : Kind) (n : ℕ) → 1 ≤ n → piece (innermost (outward braces)) at text ≡ Found kind n → kind ≡ Sign → slice_index (take n text) 0 ≡ closing_brace → string_open braces ≡ None
 sign_stands braces at text kind n least is sign closes =
     let ob = innermost (outward braces) in
     let whole : text ≡ closing_brace ∷ drop 1 text = begins_with closing_brace text (omega arith) (front_byte text n closing_brace closes least) in
@@ -163,13 +163,13 @@ sign_stands braces at text kind n least is sign closes =
     sym (innermost_is braces) ∙ stays_at (part_open ob) at (closing_brace ∷ drop 1 text) kind n found sign
 
 -- the first byte of a front
-first_of : (n : ℕ) (text : List ℕ) → 1 ≤ n → slice_index (take n text) 0 ≡ slice_index text 0
+pub first_of : (n : ℕ) (text : List ℕ) → 1 ≤ n → slice_index (take n text) 0 ≡ slice_index text 0
 first_of zero text least = absurd (omega arith)
 first_of (suc n) [] least = refl
 first_of (suc n) (x ∷ text) least = refl
 
 -- braces match, and tokens are longest, behind a gap
-longest_behind : (braces : List Open) (at n : ℕ) (text : List ℕ) (ts : List Tok) → StandInOrder (at + n) (drop n text) ts → AreLongest braces (at + n) (drop n text) ts → AreLongest braces at text ts
+pub longest_behind : (braces : List Open) (at n : ℕ) (text : List ℕ) (ts : List Tok) → StandInOrder (at + n) (drop n text) ts → AreLongest braces (at + n) (drop n text) ts → AreLongest braces at text ts
 longest_behind braces at n text [] order h = tt
 longest_behind braces at n text (t ∷ ts) order h =
     let left = left_behind at n t.span.start text order.0 in (
@@ -179,7 +179,7 @@ longest_behind braces at n text (t ∷ ts) order h =
       subst (λ l. AreLongest (braces_behind t braces) t.span.end l ts) (left_behind at n t.span.end text (omega (arith, order.0, order.1))) h.3,
     )
 
-longest_token : (braces : List Open) (kind : Kind) (at n : ℕ) (text : List ℕ) (ts : List Tok) → StandsHere (outward braces) at text (Found kind n) → AreLongest (braces_by kind at (slice_index (take n text) 0) braces) (at + n) (drop n text) ts → AreLongest braces at text (token_at kind n at text ∷ ts)
+pub longest_token : (braces : List Open) (kind : Kind) (at n : ℕ) (text : List ℕ) (ts : List Tok) → StandsHere (outward braces) at text (Found kind n) → AreLongest (braces_by kind at (slice_index (take n text) 0) braces) (at + n) (drop n text) ts → AreLongest braces at text (token_at kind n at text ∷ ts)
 longest_token braces kind at n text ts stands h =
     let width : at + n - at ≡ n = omega arith in
     let none : at - at ≡ 0 = omega arith in

@@ -13,3 +13,4 @@ pub mod Forms
 pub mod Spellings
 pub mod Braces
 pub mod LongestTokens
+pub mod Faults

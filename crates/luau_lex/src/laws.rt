@@ -1,5 +1,5 @@
 //! What follows from the token grammar: laws of the definitions alone, for every text.
-ghost use Rattle.std.specs.Prelude.{◌≡◌, ◌≢◌, ℕ, ◌+◌, ◌*◌, ◌<◌, ◌≤◌, ◌&&◌, true, false, List, [], ◌∷◌, ◌++◌, Result, Ok, Some, take, drop, length, slice_index, map, flat_map, codes, encode_utf8};
+ghost use Rattle.std.specs.Prelude.{◌≡◌, ◌≢◌, ℕ, ◌+◌, ◌*◌, ◌<◌, ◌≤◌, ◌&&◌, true, false, List, [], ◌∷◌, ◌++◌, Result, Ok, Err, Some, take, drop, length, slice_index, map, flat_map, codes, encode_utf8};
 ghost use Rattle.std.specs.List.{prefix_len};
 ghost use Rattle.luau_lex.specs.declared.token.Kind.{Kind};
 ghost use Rattle.luau_lex.specs.declared.token.Kind.TheVariants.{Quoted, Long, Whole};
@@ -13,6 +13,7 @@ ghost use Rattle.luau_lex.specs.Tokens.{Tok, tokens_of, first_line_len};
 ghost use Rattle.luau_lex.specs.Forms.{HasForm, HaveForms, IsLineComment, IsLongComment, StandApart, in_brackets};
 ghost use Rattle.luau_lex.specs.Braces.{MatchBraces};
 ghost use Rattle.luau_lex.specs.LongestTokens.{AreLongest};
+ghost use Rattle.luau_lex.specs.Faults.{StopsAt};
 ghost use Rattle.luau_lex.specs.Grammar.{HasTokens, StandInOrder, Longest, is_blanks, is_name};
 ghost use Rattle.luau_lex.specs.Values.{with_line_feeds, string_value};
 
@@ -46,6 +47,12 @@ pub fn tokens_are_longest()
 /// A closing brace goes on with an interpolated string exactly where the innermost open brace is one's.
 pub fn braces_match()
     ensures { (text : List ℕ) (ts : List Tok) → HasTokens text (Ok ts) → MatchBraces [] ts }
+{}
+
+/// Where a text has a fault, its tokens stand before it, and there stands what the fault names.
+pub fn faults_stand_where_they_are_told()
+    ensures { (text : List ℕ) (e : LexError) → HasTokens text (Err e) →
+        (ts : List Tok) × StopsAt [] (first_line_len text) (drop (first_line_len text) text) ts e }
 {}
 
 /// A name goes as far as it can.
