@@ -168,7 +168,7 @@ never_closes signs text none before behind is =
     let never = closes_never signs (length before) text none in
     cc
 
-opened_whole : (signs : ℕ) (text : List ℕ) → level text ≡ Some signs → text ≡ bracket_of bracket signs ++ drop (signs + 2) text
+pub opened_whole : (signs : ℕ) (text : List ℕ) → level text ≡ Some signs → text ≡ bracket_of bracket signs ++ drop (signs + 2) text
 opened_whole signs text opens = sym (take-append-drop (signs + 2) text) ∙ ap (λ l. l ++ drop (signs + 2) text) (opens_front signs text opens)
 
 long_fault : (opens : List Open) (o : Option ℕ) (at signs : ℕ) (text : List ℕ) (e : LexError) → level text ≡ Some signs → closing_place signs (drop (signs + 2) text) ≡ o → long_of at o signs ≡ Faulty e → IsFault opens at text e
@@ -257,7 +257,7 @@ name_no_fault : {C : Type 0} (text : List ℕ) (e : LexError) → name_piece tex
 unfolding name_piece
 name_no_fault text e is = absurd (cc)
 
-front_whole : (text : List ℕ) → 0 < length text → text ≡ slice_index text 0 ∷ drop 1 text
+pub front_whole : (text : List ℕ) → 0 < length text → text ≡ slice_index text 0 ∷ drop 1 text
 front_whole [] some = absurd (omega arith)
 front_whole (x ∷ text) some = refl
 

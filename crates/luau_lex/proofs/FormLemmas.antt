@@ -49,7 +49,7 @@ kind_form : (bytes : List ℕ) (t : Bool) → is_name bytes ≡ true → is_list
 kind_form bytes true named listed = (named, listed)
 kind_form bytes false named listed = (named, listed)
 
-name_kind_form : (bytes : List ℕ) → is_name bytes ≡ true → HasForm (name_kind bytes) bytes
+pub name_kind_form : (bytes : List ℕ) → is_name bytes ≡ true → HasForm (name_kind bytes) bytes
 unfolding name_kind
 name_kind_form bytes named = kind_form bytes (is_listed bytes reserved_words) named refl
 

@@ -1,10 +1,14 @@
 pub mod BracketLemmas
+pub mod ClearLemmas
+pub mod DeterminedLemmas
+pub mod ExactLemmas
 pub mod ExistLemmas
 pub mod FaultLemmas
 pub mod FormLemmas
 pub mod GapLemmas
 pub mod GrammarLemmas
 pub mod InsideLemmas
+pub mod LawLemmas
 pub mod LongLemmas
 pub mod LongestLemmas
 pub mod LongestTokenLemmas

@@ -61,7 +61,7 @@ closes_front signs text h =
     (λ first more. and_at (eqb (equals_len (drop 1 text)) signs) (eqb (slice_index (drop 1 text) signs) closing_bracket) more
     (λ run last. bracketed closing_bracket signs text (omega arith) (eqb-true _ _ first) (eqb-true _ _ run) (eqb-true _ _ last)))
 
-all_replicate : (p : ℕ → Bool) (b n : ℕ) → p b ≡ true → list_all p (replicate n b) ≡ true
+pub all_replicate : (p : ℕ → Bool) (b n : ℕ) → p b ≡ true → list_all p (replicate n b) ≡ true
 all_replicate p b zero h = refl
 all_replicate p b (suc n) h = both_at (p b) (list_all p (replicate n b)) h (all_replicate p b n h)
 

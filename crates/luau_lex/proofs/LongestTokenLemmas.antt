@@ -28,7 +28,7 @@ use Rattle.luau_lex.proofs.PlaceLemmas.{name_bound, numeral_bound, quoted_bound,
 other_byte : (p : ℕ → Bool) (a k : ℕ) → p a ≡ true → p k ≡ false → eqb a k ≡ false
 other_byte p a k h none = ne_eqb a k (λ same. let wrong = ap p same in cc)
 
-name_no_sign : (a b c : ℕ) → is_name_start a ≡ true → sign_len_of a b c ≡ 0
+pub name_no_sign : (a b c : ℕ) → is_name_start a ≡ true → sign_len_of a b c ≡ 0
 unfolding sign_len_of
 name_no_sign a b c h =
     let e46 : eqb a 46 ≡ false = other_byte is_name_start a 46 h refl in
@@ -58,7 +58,7 @@ name_no_sign a b c h =
     let e64 : eqb a 64 ≡ false = other_byte is_name_start a 64 h refl in
     simp (e46, e47, e43, e42, e37, e94, e61, e60, e62, e126, e45, e58, e35, e40, e41, e123, e125, e91, e93, e59, e44, e63, e124, e38, e64)
 
-digit_no_sign : (a b c : ℕ) → is_ascii_digit a ≡ true → sign_len_of a b c ≡ 0
+pub digit_no_sign : (a b c : ℕ) → is_ascii_digit a ≡ true → sign_len_of a b c ≡ 0
 unfolding sign_len_of
 digit_no_sign a b c h =
     let e46 : eqb a 46 ≡ false = other_byte is_ascii_digit a 46 h refl in
@@ -88,7 +88,37 @@ digit_no_sign a b c h =
     let e64 : eqb a 64 ≡ false = other_byte is_ascii_digit a 64 h refl in
     simp (e46, e47, e43, e42, e37, e94, e61, e60, e62, e126, e45, e58, e35, e40, e41, e123, e125, e91, e93, e59, e44, e63, e124, e38, e64)
 
-digit_behind_dot : (b c : ℕ) → is_ascii_digit b ≡ true → sign_len_of dot b c ≡ 1
+pub blank_no_sign : (a b c : ℕ) → is_blank a ≡ true → sign_len_of a b c ≡ 0
+unfolding sign_len_of
+blank_no_sign a b c h =
+    let e46 : eqb a 46 ≡ false = other_byte is_blank a 46 h refl in
+    let e47 : eqb a 47 ≡ false = other_byte is_blank a 47 h refl in
+    let e43 : eqb a 43 ≡ false = other_byte is_blank a 43 h refl in
+    let e42 : eqb a 42 ≡ false = other_byte is_blank a 42 h refl in
+    let e37 : eqb a 37 ≡ false = other_byte is_blank a 37 h refl in
+    let e94 : eqb a 94 ≡ false = other_byte is_blank a 94 h refl in
+    let e61 : eqb a 61 ≡ false = other_byte is_blank a 61 h refl in
+    let e60 : eqb a 60 ≡ false = other_byte is_blank a 60 h refl in
+    let e62 : eqb a 62 ≡ false = other_byte is_blank a 62 h refl in
+    let e126 : eqb a 126 ≡ false = other_byte is_blank a 126 h refl in
+    let e45 : eqb a 45 ≡ false = other_byte is_blank a 45 h refl in
+    let e58 : eqb a 58 ≡ false = other_byte is_blank a 58 h refl in
+    let e35 : eqb a 35 ≡ false = other_byte is_blank a 35 h refl in
+    let e40 : eqb a 40 ≡ false = other_byte is_blank a 40 h refl in
+    let e41 : eqb a 41 ≡ false = other_byte is_blank a 41 h refl in
+    let e123 : eqb a 123 ≡ false = other_byte is_blank a 123 h refl in
+    let e125 : eqb a 125 ≡ false = other_byte is_blank a 125 h refl in
+    let e91 : eqb a 91 ≡ false = other_byte is_blank a 91 h refl in
+    let e93 : eqb a 93 ≡ false = other_byte is_blank a 93 h refl in
+    let e59 : eqb a 59 ≡ false = other_byte is_blank a 59 h refl in
+    let e44 : eqb a 44 ≡ false = other_byte is_blank a 44 h refl in
+    let e63 : eqb a 63 ≡ false = other_byte is_blank a 63 h refl in
+    let e124 : eqb a 124 ≡ false = other_byte is_blank a 124 h refl in
+    let e38 : eqb a 38 ≡ false = other_byte is_blank a 38 h refl in
+    let e64 : eqb a 64 ≡ false = other_byte is_blank a 64 h refl in
+    simp (e46, e47, e43, e42, e37, e94, e61, e60, e62, e126, e45, e58, e35, e40, e41, e123, e125, e91, e93, e59, e44, e63, e124, e38, e64)
+
+pub digit_behind_dot : (b c : ℕ) → is_ascii_digit b ≡ true → sign_len_of dot b c ≡ 1
 unfolding sign_len_of
 digit_behind_dot b c h = grind arith
 
@@ -183,7 +213,7 @@ found_within : (ob : Option Open) (at : ℕ) (text : List ℕ) (k : Kind) (n : �
 found_within ob at text k n some is = subst (λ p. IsWithin p (length text)) is (piece_within ob at text some)
 
 -- a sign at the front is no longer than the longest
-sign_most : (w more : List ℕ) → is_sign w ≡ true → length w ≤ sign_len (w ++ more)
+pub sign_most : (w more : List ℕ) → is_sign w ≡ true → length w ≤ sign_len (w ++ more)
 sign_most w more is =
     let text = w ++ more in
     let m = length w in
@@ -204,11 +234,11 @@ sign_bound ob at w more k n some sign is =
     omega (arith, sign_most w more sign, piece_sign ob at (w ++ more) k n within.0 is)
 
 -- where an interpolated string is to be gone on with
-closing_start : (ob : Option Open) (start : ℕ) → part_open ob ≡ Some start → (at : ℕ) (rest : List ℕ) → piece ob at (closing_brace ∷ rest) ≡ part_piece End Mid start at (closing_brace ∷ rest)
+pub closing_start : (ob : Option Open) (start : ℕ) → part_open ob ≡ Some start → (at : ℕ) (rest : List ℕ) → piece ob at (closing_brace ∷ rest) ≡ part_piece End Mid start at (closing_brace ∷ rest)
 unfolding closing_piece
 closing_start ob start goes at rest = at_closing ob at rest ∙ ap (λ o. closing_piece o at (closing_brace ∷ rest)) goes
 
-some_of : (o : Option ℕ) → is_some o ≡ true → (n : ℕ) × (o ≡ Some n)
+pub some_of : (o : Option ℕ) → is_some o ≡ true → (n : ℕ) × (o ≡ Some n)
 some_of None h = absurd (cc)
 some_of (Some n) h = (n, refl)
 

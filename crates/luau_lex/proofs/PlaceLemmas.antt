@@ -81,7 +81,7 @@ at_bracket ob at rest = refl
 pub found_len : (k kind : Kind) (n m : ℕ) → Found k n ≡ Found kind m → n ≡ m
 found_len k kind n m is = cc
 
-first_append : (p : ℕ → Bool) (w more : List ℕ) → p 0 ≡ false → p (slice_index w 0) ≡ true → p (slice_index (w ++ more) 0) ≡ true
+pub first_append : (p : ℕ → Bool) (w more : List ℕ) → p 0 ≡ false → p (slice_index w 0) ≡ true → p (slice_index (w ++ more) 0) ≡ true
 first_append p [] more none h = absurd (cc)
 first_append p (b ∷ w) more none h = h
 

@@ -93,7 +93,7 @@ no_longer_word ob at text kind n some is numeral m longer fits word =
     let bound = word_longest (take m text) (drop m text) word in
     omega (arith, len, bound, ap numeral_len (take-append-drop m text), length-take-le m text fits, longer)
 
-at_comment : (ob : Option Open) (at : ℕ) (rest : List ℕ) → piece ob at (minus ∷ minus ∷ rest) ≡ comment_of (level rest) at (minus ∷ minus ∷ rest)
+pub at_comment : (ob : Option Open) (at : ℕ) (rest : List ℕ) → piece ob at (minus ∷ minus ∷ rest) ≡ comment_of (level rest) at (minus ∷ minus ∷ rest)
 unfolding piece other_piece comment_piece
 at_comment ob at rest = refl
 
@@ -102,7 +102,7 @@ no_comment ob at text kind n is rest begins =
     comment_no_token (level rest) at (minus ∷ minus ∷ rest) kind n (sym (at_comment ob at rest) ∙ ap (piece ob at) (sym begins) ∙ is)
 
 -- a token that goes on with an interpolated string
-sign_kind : (at : ℕ) (text : List ℕ) (kind : Kind) (n : ℕ) → sign_piece at text ≡ Found kind n → kind ≡ Sign
+pub sign_kind : (at : ℕ) (text : List ℕ) (kind : Kind) (n : ℕ) → sign_piece at text ≡ Found kind n → kind ≡ Sign
 unfolding sign_piece
 sign_kind at text kind n is =
     choose (eqb (sign_len text) 0) (Faulty (StrayByte at)) (Found Sign (sign_len text)) (Found kind n) is

@@ -178,7 +178,7 @@ all_further : (p q : ℕ → Bool) (xs : List ℕ) → ((b : ℕ) → p b ≡ tr
 all_further p q [] h all = refl
 all_further p q (x ∷ xs) h all = and_at (p x) (list_all p xs) all (λ here more. both_at _ _ (h x here) (all_further p q xs h more))
 
-all_both : (p : ℕ → Bool) (xs ys : List ℕ) → list_all p xs ≡ true → list_all p ys ≡ true → list_all p (xs ++ ys) ≡ true
+pub all_both : (p : ℕ → Bool) (xs ys : List ℕ) → list_all p xs ≡ true → list_all p ys ≡ true → list_all p (xs ++ ys) ≡ true
 all_both p [] ys all more = more
 all_both p (x ∷ xs) ys all more = and_at (p x) (list_all p xs) all (λ here rest. both_at _ _ here (all_both p xs ys rest more))
 

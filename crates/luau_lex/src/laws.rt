@@ -12,7 +12,7 @@ ghost use Rattle.luau_lex.specs.Spellings.{Spelling, written, AreSpellings, stan
 ghost use Rattle.luau_lex.specs.Tokens.{Tok, tokens_of, first_line_len};
 ghost use Rattle.luau_lex.specs.Forms.{HasForm, HaveForms, IsLineComment, IsLongComment, StandApart, in_brackets};
 ghost use Rattle.luau_lex.specs.Braces.{MatchBraces};
-ghost use Rattle.luau_lex.specs.LongestTokens.{AreLongest};
+ghost use Rattle.luau_lex.specs.LongestTokens.{AreLongest, StandClear};
 ghost use Rattle.luau_lex.specs.Faults.{StopsAt};
 ghost use Rattle.luau_lex.specs.Grammar.{HasTokens, StandInOrder, Longest, is_blanks, is_name};
 ghost use Rattle.luau_lex.specs.Values.{with_line_feeds, string_value};
@@ -47,6 +47,24 @@ pub fn tokens_are_longest()
 /// A closing brace goes on with an interpolated string exactly where the innermost open brace is one's.
 pub fn braces_match()
     ensures { (text : List ℕ) (ts : List Tok) → HasTokens text (Ok ts) → MatchBraces [] ts }
+{}
+
+/// No sign stands where a long bracket opens, and no brace behind the one that leaves an interpolated string.
+pub fn tokens_stand_clear()
+    ensures { (text : List ℕ) (ts : List Tok) → HasTokens text (Ok ts) →
+        StandClear (first_line_len text) (drop (first_line_len text) text) ts }
+{}
+
+/// The laws determine the tokens: what meets them is what the text has.
+pub fn laws_determine_tokens()
+    ensures { (text : List ℕ) (ts : List Tok) →
+        StandInOrder (first_line_len text) (drop (first_line_len text) text) ts →
+        HaveForms ts →
+        StandApart (first_line_len text) (drop (first_line_len text) text) ts →
+        MatchBraces [] ts →
+        AreLongest [] (first_line_len text) (drop (first_line_len text) text) ts →
+        StandClear (first_line_len text) (drop (first_line_len text) text) ts →
+        HasTokens text (Ok ts) }
 {}
 
 /// Where a text has a fault, its tokens stand before it, and there stands what the fault names.
