@@ -50,3 +50,23 @@ pub closes_not_before : (signs place k : ℕ) (text : List ℕ) → closing_plac
 unfolding closing_place
 closes_not_before signs place k [] is lt = cc
 closes_not_before signs place k (x ∷ xs) is lt = before_at signs place k x xs (closes signs (x ∷ xs)) refl (λ p j. closes_not_before signs p j xs) is lt
+
+never_at : (signs x k : ℕ) (xs : List ℕ) (b : Bool) (o : Option ℕ) → closes signs (x ∷ xs) ≡ b → closing_place signs xs ≡ o → ((j : ℕ) → closing_place signs xs ≡ None → closes signs (drop j xs) ≡ false) → cond b (Some 0) (option_map (λ n. suc n) o) ≡ None → closes signs (drop k (x ∷ xs)) ≡ false
+never_at signs x k xs true o h is more none = cc
+never_at signs x k xs false (Some n) h is more none = cc
+never_at signs x zero xs false None h is more none = h
+never_at signs x (suc k) xs false None h is more none = more k is
+
+closes_none : (signs : ℕ) → closes signs [] ≡ false
+unfolding closes
+closes_none signs = refl
+
+drop_none : (k : ℕ) → ◌≡◌ {A = List ℕ} (drop k []) []
+drop_none zero = refl
+drop_none (suc k) = refl
+
+-- where it closes nowhere, no place closes it
+pub closes_never : (signs k : ℕ) (text : List ℕ) → closing_place signs text ≡ None → closes signs (drop k text) ≡ false
+unfolding closing_place
+closes_never signs k [] none = ap (closes signs) (drop_none k) ∙ closes_none signs
+closes_never signs k (x ∷ xs) none = never_at signs x k xs (closes signs (x ∷ xs)) (closing_place signs xs) refl refl (λ j. closes_never signs j xs) none

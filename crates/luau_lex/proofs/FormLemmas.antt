@@ -1,11 +1,8 @@
 -- Each token that stands in a text has the form of its kind.
-use Rattle.std.proofs.Common.{◌≡◌, ℕ, zero, suc, ◌+◌, ◌<◌, ◌≤◌, Bool, true, false, ◌&&◌, ◌||◌, inl, inr, eqb, cond, List, [], ◌∷◌, ◌++◌, length, take, drop, get_or, slice_index, replicate, Result, Ok, Err, Option, Some, None, sym, refl, ap, subst, ◌∙◌, arith}
+use Rattle.std.proofs.Common.{◌≡◌, ℕ, zero, suc, ◌+◌, ◌<◌, ◌≤◌, Bool, true, false, ◌&&◌, ◌||◌, inl, inr, eqb, cond, List, [], ◌∷◌, ◌++◌, length, take, drop, get_or, slice_index, flat_map, Result, Ok, Err, Option, Some, None, sym, refl, ap, subst, ◌∙◌, arith}
 use Rattle.std.specs.List.{prefix_len}
 use Rattle.std.specs.Char.{is_ascii_digit}
-use Rattle.std.proofs.str.Laws.{order}
-use Rattle.std.proofs.Math.Seq.{take-add}
 use Rattle.std.proofs.lemmas.Bool.{eqb-true}
-use Rattle.std.proofs.lemmas.List.{take_more, get_or_past}
 use Rattle.luau_lex.specs.declared.token.Kind.{Kind}
 use Rattle.luau_lex.specs.declared.token.Kind.TheVariants.{Name, Word, Numeral, Quoted, Long, Whole, Begin, Mid, End, Sign}
 use Rattle.luau_lex.specs.declared.token.LexError.{LexError}
@@ -13,17 +10,21 @@ use Rattle.luau_lex.specs.declared.token.LexError.TheVariants.{UnfinishedString,
 use Rattle.luau_lex.specs.declared.piece.Piece.{Piece}
 use Rattle.luau_lex.specs.declared.piece.Piece.TheVariants.{Gap, Found, Faulty}
 use Rattle.luau_lex.specs.declared.piece.Open.{Open}
-use Rattle.luau_lex.specs.Bytes.{equals, bracket, closing_bracket, double_quote, single_quote, minus, backquote, brace, closing_brace, dot, is_blank, is_name_start, is_name_byte, is_numeral_byte}
+use Rattle.luau_lex.specs.Bytes.{double_quote, single_quote, minus, backquote, brace, closing_brace, dot, is_blank, is_name_start, is_name_byte, is_numeral_byte}
 use Rattle.luau_lex.specs.Names.{is_listed, reserved_words, name_kind}
 use Rattle.luau_lex.specs.Numerals.{begins_numeral, numeral_len, is_numeral}
 use Rattle.luau_lex.specs.Signs.{sign_len}
-use Rattle.luau_lex.specs.Brackets.{level, closes, closing_place, equals_len}
+use Rattle.luau_lex.specs.Brackets.{level, closing_place}
 use Rattle.luau_lex.specs.Strings.{inside_len, malformed_at}
 use Rattle.luau_lex.specs.Pieces.{name_piece, numeral_piece, unless_malformed, quoted_piece, part_piece, long_len, long_of, long_piece, long_comment_of, comment_of, comment_piece, sign_piece, bracket_or_sign, part_open, innermost, closing_piece, other_piece, piece, opens_behind}
 use Rattle.luau_lex.specs.Tokens.{Tok, token_at, with_token, first_line_len}
 use Rattle.luau_lex.specs.Grammar.{Reads, HasTokens, is_name}
-use Rattle.luau_lex.specs.Forms.{IsMarked, bracket_of, HasForm, HaveForms}
-use Rattle.luau_lex.proofs.BracketLemmas.{closes_there}
+use Rattle.luau_lex.specs.Forms.{IsMarked, IsLong, HasForm, HaveForms}
+use Rattle.luau_lex.specs.Spellings.{written, AreSpellings}
+use Rattle.luau_lex.proofs.SpellingLemmas.{and_at}
+use Rattle.luau_lex.proofs.InsideLemmas.{inside_spelled, inside_front, inside_end}
+use Rattle.luau_lex.proofs.MeaningLemmas.{narrow_all, malformed_spelled, none_malformed}
+use Rattle.luau_lex.proofs.LongLemmas.{take_marked, long_here}
 use Rattle.luau_lex.proofs.LongestLemmas.{name_longest, run_some}
 use Rattle.luau_lex.proofs.SignLemmas.{sign_longest}
 
@@ -32,7 +33,7 @@ pub choose : {C : Type 0} (t : Bool) (x y z : Piece) → cond t x y ≡ z → (t
 choose true x y z h f g = f refl h
 choose false x y z h f g = g refl h
 
-unless_found : {C : Type 0} (at : ℕ) (o : Option ℕ) (p : Piece) (kind : Kind) (n : ℕ) → unless_malformed at o p ≡ Found kind n → (o ≡ None → p ≡ Found kind n → C) → C
+pub unless_found : {C : Type 0} (at : ℕ) (o : Option ℕ) (p : Piece) (kind : Kind) (n : ℕ) → unless_malformed at o p ≡ Found kind n → (o ≡ None → p ≡ Found kind n → C) → C
 unless_found at None p kind n h f = f refl h
 unless_found at (Some k) p kind n h f = absurd (cc)
 
@@ -48,7 +49,7 @@ kind_form : (bytes : List ℕ) (t : Bool) → is_name bytes ≡ true → is_list
 kind_form bytes true named listed = (named, listed)
 kind_form bytes false named listed = (named, listed)
 
-name_kind_form : (bytes : List ℕ) → is_name bytes ≡ true → HasForm (name_kind bytes) bytes
+pub name_kind_form : (bytes : List ℕ) → is_name bytes ≡ true → HasForm (name_kind bytes) bytes
 unfolding name_kind
 name_kind_form bytes named = kind_form bytes (is_listed bytes reserved_words) named refl
 
@@ -59,39 +60,45 @@ name_form text kind n starts is =
     form_at (name_kind (take m text)) kind m n text is (name_kind_form (take m text) (name_longest text starts).whole)
 
 -- strings between marks
-absurd_or_lt : (m n : ℕ) → (n ≤ m → ⊥) → m < n
-absurd_or_lt m n h = elim (order m n) [ inl lt ↦ lt | inr le ↦ absurd (h le) ]
+pub begins_with : (last : ℕ) (text : List ℕ) → 0 < last → slice_index text 0 ≡ last → text ≡ last ∷ drop 1 text
+begins_with last [] least is = absurd (omega (arith, is))
+begins_with last (b ∷ text) least is = ap (λ k. k ∷ text) is
 
-take_marked : (x last n : ℕ) (behind : List ℕ) → 0 < last → get_or behind n 0 ≡ last → take (n + 2) (x ∷ behind) ≡ x ∷ (take n behind ++ last ∷ [])
-take_marked x last n behind some is =
-    let within : n < length behind = absurd_or_lt n (length behind) (λ past. omega (arith, get_or_past behind n 0 past, is)) in
-    let next : n + 2 ≡ suc (n + 1) = omega arith in
-    ap (λ k. take k (x ∷ behind)) next
-    ∙ ap (λ l. x ∷ l) (take_more behind n 0 within ∙ ap (λ b. take n behind ++ b ∷ []) is)
-
-marked : (text : List ℕ) (last n : ℕ) → 0 < length text → 0 < last → get_or (drop 1 text) n 0 ≡ last → malformed_at (take n (drop 1 text)) ≡ None → IsMarked (slice_index text 0) last (take (n + 2) text)
-marked [] last n some least is good = absurd (omega arith)
-marked (x ∷ behind) last n some least is good = (take n behind, take_marked x last n behind least is, good)
+-- the inside of a string up to the byte that ends it, with no malformed escape
+marked : (mark last : ℕ) (text : List ℕ) → 0 < length text → 0 < last → get_or (drop 1 text) (inside_len mark (drop 1 text)) 0 ≡ last → malformed_at (take (inside_len mark (drop 1 text)) (drop 1 text)) ≡ None → IsMarked mark (slice_index text 0) last (take (inside_len mark (drop 1 text) + 2) text)
+marked mark last [] some least is good = absurd (omega arith)
+marked mark last (x ∷ text) some least is good =
+    let r = inside_spelled mark text in
+    let inside = flat_map written r.inside in
+    let front = inside_front mark text r in
+    let next : slice_index r.behind 0 ≡ last = inside_end mark text r ∙ is in
+    let behind : r.behind ≡ last ∷ drop 1 r.behind = begins_with last r.behind least next in
+    let none : malformed_at inside ≡ None = ap malformed_at (sym front) ∙ good in (
+      r.inside,
+      take_marked x last (inside_len mark text) text least is ∙ ap (λ l. x ∷ (l ++ last ∷ [])) front,
+      narrow_all mark r.inside (last ∷ []) (drop 1 r.behind) (subst (AreSpellings mark r.inside) behind r.spells),
+      none_malformed r.inside (sym (malformed_spelled mark r.inside (narrow_all mark r.inside [] r.behind r.spells)) ∙ none),
+    )
 
 or_right : (a b : Bool) → b ≡ true → a || b ≡ true
 or_right true b h = refl
 or_right false b h = h
 
-not_none : (m : ℕ) → eqb m 0 ≡ false → 0 < m
+pub not_none : (m : ℕ) → eqb m 0 ≡ false → 0 < m
 not_none zero h = absurd (cc)
 not_none (suc m) h = omega arith
 
-or_at : (a b : Bool) {C : Type 0} → a || b ≡ true → (a ≡ true → C) → (b ≡ true → C) → C
+pub or_at : (a b : Bool) {C : Type 0} → a || b ≡ true → (a ≡ true → C) → (b ≡ true → C) → C
 or_at true b h f g = f refl
 or_at false b h f g = g h
 
-quote_form : (mark : ℕ) (bytes : List ℕ) → (eqb mark double_quote || eqb mark single_quote) ≡ true → IsMarked mark mark bytes → HasForm Quoted bytes
+quote_form : (mark : ℕ) (bytes : List ℕ) → (eqb mark double_quote || eqb mark single_quote) ≡ true → IsMarked mark mark mark bytes → HasForm Quoted bytes
 quote_form mark bytes h m =
     or_at (eqb mark double_quote) (eqb mark single_quote) h
-    (λ is. inl (subst (λ k. IsMarked k k bytes) (eqb-true mark double_quote is) m))
-    (λ is. inr (subst (λ k. IsMarked k k bytes) (eqb-true mark single_quote is) m))
+    (λ is. inl (subst (λ k. IsMarked k k k bytes) (eqb-true mark double_quote is) m))
+    (λ is. inr (subst (λ k. IsMarked k k k bytes) (eqb-true mark single_quote is) m))
 
-quote_some : (mark : ℕ) → (eqb mark double_quote || eqb mark single_quote) ≡ true → 0 < mark
+pub quote_some : (mark : ℕ) → (eqb mark double_quote || eqb mark single_quote) ≡ true → 0 < mark
 quote_some mark h =
     or_at (eqb mark double_quote) (eqb mark single_quote) h
     (λ is. omega (arith, eqb-true mark double_quote is)) (λ is. omega (arith, eqb-true mark single_quote is))
@@ -106,10 +113,10 @@ quoted_form at text kind n some quote is =
     choose (eqb (slice_index behind m) mark) (unless_malformed at good (Found Quoted (m + 2))) (Faulty (UnfinishedString at)) (Found kind n) is
     (λ ends found. unless_found at good (Found Quoted (m + 2)) kind n found
     (λ none same. form_at Quoted kind (m + 2) n text same
-    (quote_form mark (take (m + 2) text) quote (marked text mark m some (quote_some mark quote) (eqb-true (slice_index behind m) mark ends) none))))
+    (quote_form mark (take (m + 2) text) quote (marked mark mark text some (quote_some mark quote) (eqb-true (slice_index behind m) mark ends) none))))
     (λ ends found. absurd (cc))
 
-part_form : (last further : Kind) (start at : ℕ) (text : List ℕ) (kind : Kind) (n : ℕ) → 0 < length text → ((w : List ℕ) → IsMarked (slice_index text 0) backquote w → HasForm last w) → ((w : List ℕ) → IsMarked (slice_index text 0) brace w → HasForm further w) → part_piece last further start at text ≡ Found kind n → HasForm kind (take n text)
+part_form : (last further : Kind) (start at : ℕ) (text : List ℕ) (kind : Kind) (n : ℕ) → 0 < length text → ((w : List ℕ) → IsMarked backquote (slice_index text 0) backquote w → HasForm last w) → ((w : List ℕ) → IsMarked backquote (slice_index text 0) brace w → HasForm further w) → part_piece last further start at text ≡ Found kind n → HasForm kind (take n text)
 unfolding part_piece
 part_form last further start at text kind n some is_last is_further is =
     let behind = drop 1 text in
@@ -120,73 +127,24 @@ part_form last further start at text kind n some is_last is_further is =
     choose (eqb (slice_index behind m) backquote) (unless_malformed at bad (Found last (m + 2))) (cond (eqb (slice_index behind m) brace) (unless_malformed at bad inner) (Faulty (UnfinishedString start))) (Found kind n) is
     (λ ends found. unless_found at bad (Found last (m + 2)) kind n found
     (λ none same. form_at last kind (m + 2) n text same
-    (is_last (take (m + 2) text) (marked text backquote m some (omega arith) (eqb-true (slice_index behind m) backquote ends) none))))
+    (is_last (take (m + 2) text) (marked backquote backquote text some (omega arith) (eqb-true (slice_index behind m) backquote ends) none))))
     (λ _ more. choose (eqb (slice_index behind m) brace) (unless_malformed at bad inner) (Faulty (UnfinishedString start)) (Found kind n) more
     (λ ends found. unless_found at bad inner kind n found
     (λ none same. choose double (Faulty (DoubleBrace (at + 1 + m))) (Found further (m + 2)) (Found kind n) same
     (λ _ wrong. absurd (cc))
     (λ _ same'. form_at further kind (m + 2) n text same'
-    (is_further (take (m + 2) text) (marked text brace m some (omega arith) (eqb-true (slice_index behind m) brace ends) none)))))
+    (is_further (take (m + 2) text) (marked backquote brace text some (omega arith) (eqb-true (slice_index behind m) brace ends) none)))))
     (λ _ wrong. absurd (cc)))
 
 -- long brackets
-run_at : (b x : ℕ) (xs : List ℕ) (n : ℕ) (t : Bool) → eqb x b ≡ t → ((k : ℕ) → prefix_len (λ x. eqb x b) xs ≡ k → take k xs ≡ replicate k b) → cond t (1 + prefix_len (λ x. eqb x b) xs) 0 ≡ n → take n (x ∷ xs) ≡ replicate n b
-run_at b x xs zero true is more h = refl
-run_at b x xs (suc n) true is more h =
-    ap (λ y. y ∷ take n xs) (eqb-true x b is) ∙ ap (λ l. b ∷ l) (more n (omega (arith, h)))
-run_at b x xs zero false is more h = refl
-run_at b x xs (suc n) false is more h = absurd (omega (arith, h))
-
-pub run_of : (b : ℕ) (xs : List ℕ) (n : ℕ) → prefix_len (λ x. eqb x b) xs ≡ n → take n xs ≡ replicate n b
-run_of b [] zero h = refl
-run_of b [] (suc n) h = absurd (omega (arith, h))
-run_of b (x ∷ xs) n h = run_at b x xs n (eqb x b) refl (λ k. run_of b xs k) h
-
--- a bracket of this level at the front
-bracketed : (b signs : ℕ) (text : List ℕ) → 0 < b → slice_index text 0 ≡ b → equals_len (drop 1 text) ≡ signs → slice_index (drop 1 text) signs ≡ b → take (signs + 2) text ≡ bracket_of b signs
-bracketed b signs [] some first run last = absurd (omega (arith, first))
-bracketed b signs (x ∷ behind) some first run last =
-    take_marked x b signs behind some last
-    ∙ ap (λ y. y ∷ (take signs behind ++ b ∷ [])) first
-    ∙ ap (λ l. b ∷ (l ++ b ∷ [])) (run_of equals behind signs run)
-
-and_at : (a b : Bool) {C : Type 0} → a && b ≡ true → (a ≡ true → b ≡ true → C) → C
-and_at true b h f = f refl h
-and_at false b h f = absurd (cc)
-
-opened : (m signs : ℕ) (text : List ℕ) → equals_len (drop 1 text) ≡ m → (t : Bool) → (eqb (slice_index text 0) bracket && eqb (slice_index (drop 1 text) m) bracket) ≡ t → ◌≡◌ {A = Option ℕ} (cond t (Some m) None) (Some signs) → take (signs + 2) text ≡ bracket_of bracket signs
-opened m signs text run true h is =
-    let same : m ≡ signs = cc in
-    and_at (eqb (slice_index text 0) bracket) (eqb (slice_index (drop 1 text) m) bracket) h
-    (λ first last. subst (λ k. take (k + 2) text ≡ bracket_of bracket k) same (bracketed bracket m text (omega arith) (eqb-true _ _ first) run (eqb-true _ _ last)))
-opened m signs text run false h is = absurd (cc)
-
-pub opens_front : (signs : ℕ) (text : List ℕ) → level text ≡ Some signs → take (signs + 2) text ≡ bracket_of bracket signs
-unfolding level
-opens_front signs text is = opened (equals_len (drop 1 text)) signs text refl _ refl is
-
-pub closes_front : (signs : ℕ) (text : List ℕ) → closes signs text ≡ true → take (signs + 2) text ≡ bracket_of closing_bracket signs
-unfolding closes
-closes_front signs text h =
-    and_at (eqb (slice_index text 0) closing_bracket) (eqb (equals_len (drop 1 text)) signs && eqb (slice_index (drop 1 text) signs) closing_bracket) h
-    (λ first more. and_at (eqb (equals_len (drop 1 text)) signs) (eqb (slice_index (drop 1 text) signs) closing_bracket) more
-    (λ run last. bracketed closing_bracket signs text (omega arith) (eqb-true _ _ first) (eqb-true _ _ run) (eqb-true _ _ last)))
-
 long_closed : (signs at : ℕ) (text : List ℕ) (kind : Kind) (n : ℕ) (o : Option ℕ) → closing_place signs (drop (signs + 2) text) ≡ o → level text ≡ Some signs → long_of at o signs ≡ Found kind n → HasForm kind (take n text)
 unfolding long_of
 long_closed signs at text kind n None place opens is = absurd (cc)
 long_closed signs at text kind n (Some place) there opens is =
-    let behind = drop (signs + 2) text in
     let whole : long_len signs (signs + 2) place ≡ (signs + 2) + (place + (signs + 2)) = omega arith in
-    form_at Long kind (long_len signs (signs + 2) place) n text is (
-      signs,
-      take place behind,
-      ap (λ k. take k text) whole
-          ∙ take-add (signs + 2) (place + (signs + 2)) text
-          ∙ ap (λ l. l ++ take (place + (signs + 2)) behind) (opens_front signs text opens)
-          ∙ ap (λ l. bracket_of bracket signs ++ l) (take-add place (signs + 2) behind
-          ∙ ap (λ l. take place behind ++ l) (closes_front signs (drop place behind) (closes_there signs place behind there))),
-    )
+    let body = take place (drop (signs + 2) text) in
+    form_at Long kind (long_len signs (signs + 2) place) n text is
+    (signs, body, subst (λ k. IsLong signs body (take k text)) (sym whole) (long_here signs place text opens there))
 
 long_form : (signs at : ℕ) (text : List ℕ) (kind : Kind) (n : ℕ) → level text ≡ Some signs → long_piece signs at text ≡ Found kind n → HasForm kind (take n text)
 unfolding long_piece
@@ -202,7 +160,7 @@ sign_form at text kind n is =
     (λ some same. form_at Sign kind m n text same (sign_longest text (not_none m some)).whole)
 
 -- numerals
-begins_byte : (x : ℕ) (l : List ℕ) → begins_numeral (x ∷ l) ≡ true → is_numeral_byte x ≡ true
+pub begins_byte : (x : ℕ) (l : List ℕ) → begins_numeral (x ∷ l) ≡ true → is_numeral_byte x ≡ true
 begins_byte x l h =
     or_at (is_ascii_digit x) (eqb x dot && is_ascii_digit (slice_index (x ∷ l) 1)) h
     (λ digit. ap (λ t. (t || eqb x 95) || eqb x dot) digit)
@@ -223,14 +181,14 @@ take_none : (n : ℕ) → ◌≡◌ {A = List ℕ} (take n []) []
 take_none zero = refl
 take_none (suc n) = refl
 
-begins_front : (text : List ℕ) (n : ℕ) → prefix_len is_numeral_byte text ≤ n → begins_numeral text ≡ true → begins_numeral (take n text) ≡ true
+pub begins_front : (text : List ℕ) (n : ℕ) → prefix_len is_numeral_byte text ≤ n → begins_numeral text ≡ true → begins_numeral (take n text) ≡ true
 begins_front [] n most h = absurd (cc)
 begins_front (x ∷ l) zero most h = absurd (omega (arith, most, run_some is_numeral_byte (x ∷ l) refl (begins_byte x l h)))
 begins_front (x ∷ []) (suc n) most h = ap (λ l. begins_numeral (x ∷ l)) (take_none n) ∙ h
 begins_front (x ∷ y ∷ l) (suc zero) most h = digit_first x y l most h
 begins_front (x ∷ y ∷ l) (suc (suc n)) most h = h
 
-digits_most : (text : List ℕ) → prefix_len is_numeral_byte text ≤ numeral_len text
+pub digits_most : (text : List ℕ) → prefix_len is_numeral_byte text ≤ numeral_len text
 unfolding numeral_len
 digits_most text = omega arith
 
@@ -248,7 +206,7 @@ unfolding long_comment_of
 long_no_token None signs at kind n is = absurd (cc)
 long_no_token (Some place) signs at kind n is = absurd (cc)
 
-comment_no_token : (o : Option ℕ) (at : ℕ) (text : List ℕ) (kind : Kind) (n : ℕ) {C : Type 0} → comment_of o at text ≡ Found kind n → C
+pub comment_no_token : (o : Option ℕ) (at : ℕ) (text : List ℕ) (kind : Kind) (n : ℕ) {C : Type 0} → comment_of o at text ≡ Found kind n → C
 unfolding comment_of
 comment_no_token None at text kind n is = absurd (cc)
 comment_no_token (Some signs) at text kind n is = long_no_token (closing_place signs (drop (signs + 4) text)) signs at kind n is
@@ -263,7 +221,7 @@ unfolding closing_piece
 closing_form None at text kind n some first is = sign_form at text kind n is
 closing_form (Some start) at text kind n some first is =
     part_form End Mid start at text kind n some
-    (λ w h. subst (λ b. IsMarked b backquote w) first h) (λ w h. subst (λ b. IsMarked b brace w) first h) is
+    (λ w h. subst (λ b. IsMarked backquote b backquote w) first h) (λ w h. subst (λ b. IsMarked backquote b brace w) first h) is
 
 other_form : (open_brace : Option Open) (at : ℕ) (text : List ℕ) (kind : Kind) (n : ℕ) → 0 < length text → other_piece open_brace at text ≡ Found kind n → HasForm kind (take n text)
 unfolding other_piece comment_piece
@@ -276,7 +234,7 @@ other_form open_brace at text kind n some is =
     let second = cond (eqb b closing_brace) (closing_piece (part_open open_brace) at text) third in
     choose (eqb b backquote) (part_piece Whole Begin at at text) second (Found kind n) is
     (λ first found. part_form Whole Begin at at text kind n some
-    (λ w h. subst (λ b. IsMarked b backquote w) (eqb-true b backquote first) h) (λ w h. subst (λ b. IsMarked b brace w) (eqb-true b backquote first) h) found)
+    (λ w h. subst (λ b. IsMarked backquote b backquote w) (eqb-true b backquote first) h) (λ w h. subst (λ b. IsMarked backquote b brace w) (eqb-true b backquote first) h) found)
     (λ _ more. choose (eqb b closing_brace) (closing_piece (part_open open_brace) at text) third (Found kind n) more
     (λ first found. closing_form (part_open open_brace) at text kind n some (eqb-true b closing_brace first) found)
     (λ _ more'. choose begins comment last (Found kind n) more'

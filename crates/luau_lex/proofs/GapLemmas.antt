@@ -1,10 +1,11 @@
 -- What stands between the tokens of a text is blanks and comments.
-use Rattle.std.proofs.Common.{◌≡◌, ℕ, suc, ◌+◌, ◌-◌, ◌≤◌, Bool, true, false, ◌&&◌, ◌||◌, inl, inr, eqb, cond, List, [], ◌∷◌, ◌++◌, length, take, drop, slice_index, Result, Ok, Err, Option, Some, None, sym, refl, ap, subst, ◌∙◌, arith}
+use Rattle.std.proofs.Common.{◌≡◌, ℕ, suc, ◌+◌, ◌-◌, ◌≤◌, Bool, true, false, ◌&&◌, ◌||◌, not, inl, inr, eqb, cond, List, [], ◌∷◌, ◌++◌, length, take, drop, slice_index, Result, Ok, Err, Option, Some, None, sym, refl, ap, subst, ◌∙◌, arith, append-nil}
 use Rattle.std.specs.List.{prefix_len}
 use Rattle.std.proofs.Math.Seq.{take-add}
 use Rattle.std.proofs.lemmas.Bool.{eqb-true}
 use Rattle.std.proofs.lemmas.List.{take-append-drop, drop-drop}
-use Rattle.luau_lex.proofs.FormLemmas.{choose, opens_front, closes_front}
+use Rattle.luau_lex.proofs.FormLemmas.{choose}
+use Rattle.luau_lex.proofs.LongLemmas.{none_opens, long_here}
 use Rattle.luau_lex.proofs.OrderLemmas.{left_behind, reads_order}
 use Rattle.luau_lex.specs.declared.token.Kind.{Kind}
 use Rattle.luau_lex.specs.declared.token.Kind.TheVariants.{Numeral, Quoted, Whole, Begin, Mid, End, Sign}
@@ -13,7 +14,7 @@ use Rattle.luau_lex.specs.declared.token.LexError.TheVariants.{UnfinishedString,
 use Rattle.luau_lex.specs.declared.piece.Piece.{Piece}
 use Rattle.luau_lex.specs.declared.piece.Piece.TheVariants.{Gap, Found, Faulty}
 use Rattle.luau_lex.specs.declared.piece.Open.{Open}
-use Rattle.luau_lex.specs.Bytes.{bracket, double_quote, single_quote, minus, backquote, brace, closing_brace, is_blank, is_name_start, is_no_line_feed}
+use Rattle.luau_lex.specs.Bytes.{line_feed, double_quote, single_quote, minus, backquote, brace, closing_brace, is_blank, is_name_start, is_no_line_feed}
 use Rattle.luau_lex.specs.Numerals.{begins_numeral, numeral_len, is_numeral}
 use Rattle.luau_lex.specs.Signs.{sign_len}
 use Rattle.luau_lex.specs.Brackets.{level, closing_place}
@@ -21,8 +22,7 @@ use Rattle.luau_lex.specs.Strings.{inside_len, malformed_at}
 use Rattle.luau_lex.specs.Pieces.{name_piece, numeral_piece, unless_malformed, quoted_piece, part_piece, long_len, long_of, long_piece, long_comment_of, comment_of, comment_piece, sign_piece, bracket_or_sign, part_open, innermost, closing_piece, other_piece, piece, opens_behind}
 use Rattle.luau_lex.specs.Tokens.{Tok, token_at, with_token, first_line_len}
 use Rattle.luau_lex.specs.Grammar.{Reads, HasTokens, StandInOrder}
-use Rattle.luau_lex.specs.Forms.{bracket_of, IsGapPart, StandApart}
-use Rattle.luau_lex.proofs.BracketLemmas.{closes_there}
+use Rattle.luau_lex.specs.Forms.{EndsLine, IsGapPart, IsGapOf, IsGap, StandApart}
 use Rattle.luau_lex.proofs.LongestLemmas.{blanks_longest, run_all}
 
 -- what is no gap
@@ -88,8 +88,27 @@ closing_no_gap None at text n is = sign_no_gap at text n is
 closing_no_gap (Some start) at text n is = part_no_gap End Mid start at text n is
 
 -- comments
-same_gap : (n m : ℕ) (text : List ℕ) → Gap n ≡ Gap m → IsGapPart (take n text) → IsGapPart (take m text)
-same_gap n m text is h = let same : n ≡ m = cc in subst (λ k. IsGapPart (take k text)) same h
+same_gap : (n m : ℕ) (text : List ℕ) → Gap n ≡ Gap m → IsGapPart (take n text) (drop n text) → IsGapPart (take m text) (drop m text)
+same_gap n m text is h = let same : n ≡ m = cc in subst (λ k. IsGapPart (take k text) (drop k text)) same h
+
+-- a line that goes on, or ends
+not_false : (t : Bool) → not t ≡ false → t ≡ true
+not_false true h = refl
+not_false false h = absurd (cc)
+
+feed_of : (b : ℕ) → is_no_line_feed b ≡ false → b ≡ line_feed
+feed_of b h = eqb-true b line_feed (not_false (eqb b line_feed) h)
+
+line_ends_at : (b : ℕ) (text : List ℕ) (t : Bool) → is_no_line_feed b ≡ t → EndsLine (drop (prefix_len is_no_line_feed text) text) → EndsLine (drop (cond t (1 + prefix_len is_no_line_feed text) 0) (b ∷ text))
+line_ends_at b text true h more =
+    let next : 1 + prefix_len is_no_line_feed text ≡ suc (prefix_len is_no_line_feed text) = omega arith in
+    subst (λ k. EndsLine (drop k (b ∷ text))) (sym next) more
+line_ends_at b text false h more = inr (feed_of b h)
+
+-- a line goes to a line feed, or to the end of the text
+line_ends : (text : List ℕ) → EndsLine (drop (prefix_len is_no_line_feed text) text)
+line_ends [] = inl refl
+line_ends (b ∷ text) = line_ends_at b text (is_no_line_feed b) refl (line_ends text)
 
 -- two bytes, and what follows them
 two_then : (m : ℕ) (text : List ℕ) → 2 ≤ length text → slice_index text 0 ≡ minus → slice_index text 1 ≡ minus → take (2 + m) text ≡ minus ∷ minus ∷ take m (drop 2 text)
@@ -99,38 +118,40 @@ two_then m (x ∷ y ∷ text) some a b =
     let next : 2 + m ≡ suc (suc m) = omega arith in
     ap (λ k. take k (x ∷ y ∷ text)) next ∙ ap (λ z. z ∷ y ∷ take m text) a ∙ ap (λ z. minus ∷ z ∷ take m text) b
 
-line_gap : (at : ℕ) (text : List ℕ) (n : ℕ) → 2 ≤ length text → slice_index text 0 ≡ minus → slice_index text 1 ≡ minus → IsGapPart (take (2 + prefix_len is_no_line_feed (drop 2 text)) text)
-line_gap at text n some a b =
-    let m = prefix_len is_no_line_feed (drop 2 text) in
-    inr (inl (take m (drop 2 text), two_then m text some a b, run_all is_no_line_feed (drop 2 text)))
+line_gap : (text : List ℕ) → 2 ≤ length text → slice_index text 0 ≡ minus → slice_index text 1 ≡ minus → level (drop 2 text) ≡ None → IsGapPart (take (2 + prefix_len is_no_line_feed (drop 2 text)) text) (drop (2 + prefix_len is_no_line_feed (drop 2 text)) text)
+line_gap text some a b none =
+    let line = drop 2 text in
+    let m = prefix_len is_no_line_feed line in
+    inr (inl (
+      take m line,
+      two_then m text some a b,
+      run_all is_no_line_feed line,
+      none_opens (take m line) (drop m line) (ap level (take-append-drop m line) ∙ none),
+      subst EndsLine (drop-drop m 2 text) (line_ends line),
+    ))
 
-long_gap : (at signs : ℕ) (text : List ℕ) (n : ℕ) (o : Option ℕ) → 2 ≤ length text → slice_index text 0 ≡ minus → slice_index text 1 ≡ minus → level (drop 2 text) ≡ Some signs → closing_place signs (drop (signs + 4) text) ≡ o → long_comment_of at o signs ≡ Gap n → IsGapPart (take n text)
+long_gap : (at signs : ℕ) (text : List ℕ) (n : ℕ) (o : Option ℕ) → 2 ≤ length text → slice_index text 0 ≡ minus → slice_index text 1 ≡ minus → level (drop 2 text) ≡ Some signs → closing_place signs (drop (signs + 4) text) ≡ o → long_comment_of at o signs ≡ Gap n → IsGapPart (take n text) (drop n text)
 unfolding long_comment_of
 long_gap at signs text n None some a b opens there is = absurd (cc)
 long_gap at signs text n (Some place) some a b opens there is =
     let l = drop 2 text in
-    let behind = drop (signs + 2) l in
     let far : 2 + (signs + 2) ≡ signs + 4 = omega arith in
-    let same_behind : behind ≡ drop (signs + 4) text = drop-drop (signs + 2) 2 text ∙ ap (λ k. drop k text) far in
-    let there' : closing_place signs behind ≡ Some place = ap (closing_place signs) same_behind ∙ there in
-    let whole : long_len signs (signs + 4) place ≡ 2 + ((signs + 2) + (place + (signs + 2))) = omega arith in
+    let same_behind : drop (signs + 2) l ≡ drop (signs + 4) text = drop-drop (signs + 2) 2 text ∙ ap (λ k. drop k text) far in
+    let m = (signs + 2) + (place + (signs + 2)) in
+    let whole : long_len signs (signs + 4) place ≡ 2 + m = omega arith in
     same_gap (long_len signs (signs + 4) place) n text is
     (inr (inr (
       signs,
-      take place behind,
-      ap (λ k. take k text) whole
-          ∙ two_then ((signs + 2) + (place + (signs + 2))) text some a b
-          ∙ ap (λ w. minus ∷ minus ∷ w)
-          (take-add (signs + 2) (place + (signs + 2)) l
-          ∙ ap (λ w. w ++ take (place + (signs + 2)) behind) (opens_front signs l opens)
-          ∙ ap (λ w. bracket_of bracket signs ++ w) (take-add place (signs + 2) behind
-          ∙ ap (λ w. take place behind ++ w) (closes_front signs (drop place behind) (closes_there signs place behind there')))),
+      take place (drop (signs + 2) l),
+      take m l,
+      ap (λ k. take k text) whole ∙ two_then m text some a b,
+      long_here signs place l opens (ap (closing_place signs) same_behind ∙ there),
     )))
 
-comment_gap : (at : ℕ) (text : List ℕ) (n : ℕ) (o : Option ℕ) → 2 ≤ length text → slice_index text 0 ≡ minus → slice_index text 1 ≡ minus → level (drop 2 text) ≡ o → comment_of o at text ≡ Gap n → IsGapPart (take n text)
+comment_gap : (at : ℕ) (text : List ℕ) (n : ℕ) (o : Option ℕ) → 2 ≤ length text → slice_index text 0 ≡ minus → slice_index text 1 ≡ minus → level (drop 2 text) ≡ o → comment_of o at text ≡ Gap n → IsGapPart (take n text) (drop n text)
 unfolding comment_of
 comment_gap at text n None some a b opens is =
-    same_gap (2 + prefix_len is_no_line_feed (drop 2 text)) n text is (line_gap at text n some a b)
+    same_gap (2 + prefix_len is_no_line_feed (drop 2 text)) n text is (line_gap text some a b opens)
 comment_gap at text n (Some signs) some a b opens is =
     long_gap at signs text n (closing_place signs (drop (signs + 4) text)) some a b opens refl is
 
@@ -143,7 +164,7 @@ both : {C : Type 0} (a b : Bool) → a && b ≡ true → (a ≡ true → b ≡ t
 both true b h f = f refl h
 both false b h f = absurd (cc)
 
-other_gap : (open_brace : Option Open) (at : ℕ) (text : List ℕ) (n : ℕ) → other_piece open_brace at text ≡ Gap n → IsGapPart (take n text)
+other_gap : (open_brace : Option Open) (at : ℕ) (text : List ℕ) (n : ℕ) → other_piece open_brace at text ≡ Gap n → IsGapPart (take n text) (drop n text)
 unfolding other_piece comment_piece
 other_gap open_brace at text n is =
     let b = slice_index text 0 in
@@ -162,7 +183,7 @@ other_gap open_brace at text n is =
     (λ _ h. bracket_no_gap (level text) at text n h)))
 
 -- a gap at a place is blanks or a comment
-pub piece_gap : (open_brace : Option Open) (at : ℕ) (text : List ℕ) (n : ℕ) → piece open_brace at text ≡ Gap n → IsGapPart (take n text)
+pub piece_gap : (open_brace : Option Open) (at : ℕ) (text : List ℕ) (n : ℕ) → piece open_brace at text ≡ Gap n → IsGapPart (take n text) (drop n text)
 unfolding piece
 piece_gap open_brace at text n is =
     let b = slice_index text 0 in
@@ -181,14 +202,33 @@ piece_gap open_brace at text n is =
     (λ _ h. quoted_no_gap at text n h)
     (λ _ h. other_gap open_brace at text n h))))
 
--- tokens that stand apart behind a gap
-apart_behind : (at n : ℕ) (text : List ℕ) (ts : List Tok) → IsGapPart (take n text) → StandInOrder (at + n) (drop n text) ts → StandApart (at + n) (drop n text) ts → StandApart at text ts
-apart_behind at n text [] form order h = (take n text ∷ h.0, (drop n text, form, sym (take-append-drop n text), h.1))
-apart_behind at n text (t ∷ ts) form order h =
-    let far : t.span.start - at ≡ n + (t.span.start - (at + n)) = omega (arith, order.0) in (
-      (take n text ∷ h.0.0, (take (t.span.start - (at + n)) (drop n text), form, ap (λ k. take k text) far ∙ take-add n (t.span.start - (at + n)) text, h.0.1)),
-      subst (λ l. StandApart t.span.end l ts) (left_behind at n t.span.end text (omega (arith, order.0, order.1))) h.1,
+-- a gap behind a part of one
+pub gap_behind : (n k : ℕ) (text : List ℕ) → IsGapPart (take n text) (drop n text) → IsGap (take k (drop n text)) (drop k (drop n text)) → IsGap (take (n + k) text) (drop (n + k) text)
+gap_behind n k text form h =
+    let rest = take k (drop n text) in
+    let left = drop-drop k n text in (
+      take n text ∷ h.0,
+      (
+        rest,
+        subst (IsGapPart (take n text)) (sym (take-append-drop k (drop n text)) ∙ ap (λ l. rest ++ l) left) form,
+        take-add n k text,
+        subst (IsGapOf h.0 rest) left h.1,
+      ),
     )
+
+-- the gap before a token behind a part of one
+pub gap_before : (at n start : ℕ) (text : List ℕ) → at + n ≤ start → IsGapPart (take n text) (drop n text) → IsGap (take (start - (at + n)) (drop n text)) (drop (start - (at + n)) (drop n text)) → IsGap (take (start - at) text) (drop (start - at) text)
+gap_before at n start text order form h =
+    let far : n + (start - (at + n)) ≡ start - at = omega arith in
+    subst (λ k. IsGap (take k text) (drop k text)) far (gap_behind n (start - (at + n)) text form h)
+
+-- tokens that stand apart behind a gap
+apart_behind : (at n : ℕ) (text : List ℕ) (ts : List Tok) → IsGapPart (take n text) (drop n text) → StandInOrder (at + n) (drop n text) ts → StandApart (at + n) (drop n text) ts → StandApart at text ts
+apart_behind at n text [] form order h = (take n text ∷ h.0, (drop n text, subst (IsGapPart (take n text)) (sym (append-nil (drop n text))) form, sym (take-append-drop n text), h.1))
+apart_behind at n text (t ∷ ts) form order h = (
+  gap_before at n t.span.start text order.0 form h.0,
+  subst (λ l. StandApart t.span.end l ts) (left_behind at n t.span.end text (omega (arith, order.0, order.1))) h.1,
+)
 
 apart_token : (kind : Kind) (at n : ℕ) (text : List ℕ) (ts : List Tok) → StandApart (at + n) (drop n text) ts → StandApart at text (token_at kind n at text ∷ ts)
 apart_token kind at n text ts h =

@@ -30,7 +30,7 @@ order_behind at n text (t ∷ ts) fits h = (
 )
 
 -- a token at the front, and tokens in order behind it
-order_token : (kind : Kind) (at n : ℕ) (text : List ℕ) (ts : List Tok) → 1 ≤ n → n ≤ length text → StandInOrder (at + n) (drop n text) ts → StandInOrder at text (token_at kind n at text ∷ ts)
+pub order_token : (kind : Kind) (at n : ℕ) (text : List ℕ) (ts : List Tok) → 1 ≤ n → n ≤ length text → StandInOrder (at + n) (drop n text) ts → StandInOrder at text (token_at kind n at text ∷ ts)
 order_token kind at n text ts least fits h =
     let width : at + n - at ≡ n = omega arith in
     let none : at - at ≡ 0 = omega arith in (

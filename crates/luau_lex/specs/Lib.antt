@@ -10,3 +10,7 @@ pub mod Values
 pub mod Steps
 pub mod Grammar
 pub mod Forms
+pub mod Spellings
+pub mod Braces
+pub mod LongestTokens
+pub mod Faults

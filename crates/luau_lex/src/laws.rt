@@ -1,18 +1,31 @@
 //! What follows from the token grammar: laws of the definitions alone, for every text.
-ghost use Rattle.std.specs.Prelude.{◌≡◌, ◌≢◌, ℕ, ◌<◌, ◌≤◌, ◌&&◌, true, false, List, Result, Ok, Some, take, drop, length, slice_index};
+ghost use Rattle.std.specs.Prelude.{◌≡◌, ◌≢◌, ℕ, ◌+◌, ◌*◌, ◌<◌, ◌≤◌, ◌&&◌, true, false, List, [], ◌∷◌, ◌++◌, Result, Ok, Err, Some, take, drop, length, slice_index, map, flat_map, codes, encode_utf8};
 ghost use Rattle.std.specs.List.{prefix_len};
+ghost use Rattle.luau_lex.specs.declared.token.Kind.{Kind};
+ghost use Rattle.luau_lex.specs.declared.token.Kind.TheVariants.{Quoted, Long, Whole};
 ghost use Rattle.luau_lex.specs.declared.token.LexError.{LexError};
-ghost use Rattle.luau_lex.specs.Bytes.{is_blank, is_name_start, is_name_byte};
+ghost use Rattle.luau_lex.specs.Bytes.{line_feed, carriage_return, is_blank, is_name_start, is_name_byte};
 ghost use Rattle.luau_lex.specs.Brackets.{closes, closing_place};
 ghost use Rattle.luau_lex.specs.Signs.{sign_len, is_sign};
+ghost use Rattle.luau_lex.specs.Strings.{digit_number, number_in, utf8_scheme};
+ghost use Rattle.luau_lex.specs.Spellings.{Spelling, written, AreSpellings, stand_for};
 ghost use Rattle.luau_lex.specs.Tokens.{Tok, tokens_of, first_line_len};
-ghost use Rattle.luau_lex.specs.Forms.{HaveForms, StandApart};
+ghost use Rattle.luau_lex.specs.Forms.{HasForm, HaveForms, IsLineComment, IsLongComment, StandApart, in_brackets};
+ghost use Rattle.luau_lex.specs.Braces.{MatchBraces};
+ghost use Rattle.luau_lex.specs.LongestTokens.{AreLongest, StandClear};
+ghost use Rattle.luau_lex.specs.Faults.{StopsAt};
 ghost use Rattle.luau_lex.specs.Grammar.{HasTokens, StandInOrder, Longest, is_blanks, is_name};
+ghost use Rattle.luau_lex.specs.Values.{with_line_feeds, string_value};
 
 /// A text has one list of tokens, or one first fault, and not both.
 pub fn tokens_unique()
     ensures { (text : List ℕ) (r s : Result (List Tok) LexError) →
         HasTokens text r → HasTokens text s → r ≡ s }
+{}
+
+/// Each text has what `tokens_of` computes: its tokens, or its first fault.
+pub fn tokens_exist()
+    ensures { (text : List ℕ) → HasTokens text (tokens_of text) }
 {}
 
 /// What a text has is what `tokens_of` computes.
@@ -23,6 +36,41 @@ pub fn tokens_compute()
 /// The tokens of a text stand in order in it, each with the bytes at its place.
 pub fn tokens_in_order()
     ensures { (text : List ℕ) (ts : List Tok) → HasTokens text (Ok ts) → StandInOrder 0 text ts }
+{}
+
+/// No token of a text could be longer at its place.
+pub fn tokens_are_longest()
+    ensures { (text : List ℕ) (ts : List Tok) → HasTokens text (Ok ts) →
+        AreLongest [] (first_line_len text) (drop (first_line_len text) text) ts }
+{}
+
+/// A closing brace goes on with an interpolated string exactly where the innermost open brace is one's.
+pub fn braces_match()
+    ensures { (text : List ℕ) (ts : List Tok) → HasTokens text (Ok ts) → MatchBraces [] ts }
+{}
+
+/// No sign stands where a long bracket opens, and no brace behind the one that leaves an interpolated string.
+pub fn tokens_stand_clear()
+    ensures { (text : List ℕ) (ts : List Tok) → HasTokens text (Ok ts) →
+        StandClear (first_line_len text) (drop (first_line_len text) text) ts }
+{}
+
+/// The laws determine the tokens: what meets them is what the text has.
+pub fn laws_determine_tokens()
+    ensures { (text : List ℕ) (ts : List Tok) →
+        StandInOrder (first_line_len text) (drop (first_line_len text) text) ts →
+        HaveForms ts →
+        StandApart (first_line_len text) (drop (first_line_len text) text) ts →
+        MatchBraces [] ts →
+        AreLongest [] (first_line_len text) (drop (first_line_len text) text) ts →
+        StandClear (first_line_len text) (drop (first_line_len text) text) ts →
+        HasTokens text (Ok ts) }
+{}
+
+/// Where a text has a fault, its tokens stand before it, and there stands what the fault names.
+pub fn faults_stand_where_they_are_told()
+    ensures { (text : List ℕ) (e : LexError) → HasTokens text (Err e) →
+        (ts : List Tok) × StopsAt [] (first_line_len text) (drop (first_line_len text) text) ts e }
 {}
 
 /// A name goes as far as it can.
@@ -62,4 +110,55 @@ pub fn tokens_have_their_forms()
 pub fn gaps_are_blanks_and_comments()
     ensures { (text : List ℕ) (ts : List Tok) → HasTokens text (Ok ts) →
         StandApart (first_line_len text) (drop (first_line_len text) text) ts }
+{}
+
+/// What goes on behind its end is of no form, and a long bracket opens no comment to the end of its line.
+pub fn forms_end_where_they_close()
+    ensures two_strings { HasForm Quoted (codes "\"a\" \"b\"") → ⊥ }
+    ensures two_long_strings { HasForm Long (codes "[[a]] x [[b]]") → ⊥ }
+    ensures two_parts { HasForm Whole (codes "`a{b}c`") → ⊥ }
+    ensures two_comments { IsLongComment (codes "--[[a]] x --[[b]]") → ⊥ }
+    ensures comment_that_opens { (behind : List ℕ) → IsLineComment (codes "--[[a]] x") behind → ⊥ }
+{}
+
+/// A string between marks stands for what its spellings stand for, one behind the other.
+pub fn strings_stand_for_what_is_spelled()
+    ensures { (kind : Kind) (mark first last : ℕ) (inside : List Spelling) → kind ≢ Long →
+        AreSpellings mark inside (last ∷ []) →
+        string_value kind (first ∷ (flat_map written inside ++ last ∷ [])) ≡ stand_for inside }
+{}
+
+/// A string in long brackets stands for its lines: a line end directly behind the opening bracket is left out,
+/// and each further pair of a carriage return and a line feed is a line feed.
+pub fn long_strings_stand_for_their_lines()
+    ensures line_feed_first { (signs : ℕ) (body : List ℕ) →
+        string_value Long (in_brackets signs (line_feed ∷ body)) ≡ with_line_feeds body }
+    ensures pair_first { (signs : ℕ) (body : List ℕ) →
+        string_value Long (in_brackets signs (carriage_return ∷ line_feed ∷ body)) ≡ with_line_feeds body }
+    ensures other_first { (signs : ℕ) (body : List ℕ) →
+        ((behind : List ℕ) → body ≢ line_feed ∷ behind) →
+        ((behind : List ℕ) → body ≢ carriage_return ∷ line_feed ∷ behind) →
+        string_value Long (in_brackets signs body) ≡ with_line_feeds body }
+    ensures pairs { (before behind : List ℕ) →
+        with_line_feeds (before ++ carriage_return ∷ line_feed ∷ behind)
+        ≡ with_line_feeds before ++ line_feed ∷ with_line_feeds behind }
+    ensures no_pair { (text : List ℕ) →
+        ((before behind : List ℕ) → text ≢ before ++ carriage_return ∷ line_feed ∷ behind) →
+        with_line_feeds text ≡ text }
+{}
+
+/// The digits of a number: each has its value, and each further one counts by the base.
+pub fn digits_write_numbers()
+    ensures decimal { map digit_number (codes "0123456789") ≡ 0 ∷ 1 ∷ 2 ∷ 3 ∷ 4 ∷ 5 ∷ 6 ∷ 7 ∷ 8 ∷ 9 ∷ [] }
+    ensures small { map digit_number (codes "abcdef") ≡ 10 ∷ 11 ∷ 12 ∷ 13 ∷ 14 ∷ 15 ∷ [] }
+    ensures large { map digit_number (codes "ABCDEF") ≡ 10 ∷ 11 ∷ 12 ∷ 13 ∷ 14 ∷ 15 ∷ [] }
+    ensures none { (base : ℕ) → number_in base [] ≡ 0 }
+    ensures further { (base d : ℕ) (digits : List ℕ) →
+        number_in base (digits ++ d ∷ []) ≡ base * number_in base digits + digit_number d }
+{}
+
+/// The scheme of UTF-8 is that of the standard library's characters, and gives surrogates three bytes.
+pub fn code_points_are_in_utf8()
+    ensures scheme { (n : ℕ) → utf8_scheme n ≡ encode_utf8 n }
+    ensures surrogates { (n : ℕ) → 0xD800 ≤ n → n ≤ 0xDFFF → length (utf8_scheme n) ≡ 3 }
 {}
