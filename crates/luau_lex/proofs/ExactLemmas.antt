@@ -12,7 +12,7 @@ use Rattle.luau_lex.specs.declared.token.LexError.TheVariants.{BadNumeral, Stray
 use Rattle.luau_lex.specs.declared.piece.Piece.{Piece}
 use Rattle.luau_lex.specs.declared.piece.Piece.TheVariants.{Gap, Found, Faulty}
 use Rattle.luau_lex.specs.declared.piece.Open.{Open}
-use Rattle.luau_lex.specs.Bytes.{backslash, bracket, dot, double_quote, single_quote, minus, backquote, brace, closing_brace, is_blank, is_name_start, is_name_byte, is_digit_or_line}
+use Rattle.luau_lex.specs.Bytes.{backslash, bracket, dot, double_quote, single_quote, minus, backquote, brace, closing_brace, is_blank, is_name_start, is_name_byte, is_digit_or_underscore}
 use Rattle.luau_lex.specs.Names.{is_listed, reserved_words, name_kind}
 use Rattle.luau_lex.specs.Numerals.{begins_numeral, numeral_len, is_exponent_or_none, after_fraction, is_decimal, is_numeral}
 use Rattle.luau_lex.specs.Signs.{sign_len, sign_len_of, is_sign}
@@ -148,7 +148,7 @@ no_back b c = refl
 dot_digit : (d : ℕ) → is_ascii_digit d ≡ true → is_numeral (dot ∷ d ∷ []) ≡ true
 unfolding is_numeral is_decimal after_fraction is_exponent_or_none
 dot_digit d digit =
-    let one : prefix_len is_digit_or_line (d ∷ []) ≡ 1 = ap (λ t. cond (t || eqb d 95) (1 + 0) 0) digit in
+    let one : prefix_len is_digit_or_underscore (d ∷ []) ≡ 1 = ap (λ t. cond (t || eqb d 95) (1 + 0) 0) digit in
     ap (λ n. is_exponent_or_none (drop n (d ∷ []))) one
 
 -- a dot before a digit is no sign

@@ -6,7 +6,7 @@ use Rattle.std.proofs.str.Laws.{order}
 use Rattle.std.proofs.Math.Seq.{drop-append_seam, drop-append-add, take-add, take-length}
 use Rattle.std.proofs.lemmas.List.{take-append-drop, drop-drop, drop-append-le, get_or-append-add}
 use Rattle.std.proofs.lemmas.List.Sums.{prefix_len_passes}
-use Rattle.luau_lex.specs.Bytes.{dot, is_name_byte, is_numeral_byte, is_digit_or_line, is_hex_or_line, is_binary_or_line}
+use Rattle.luau_lex.specs.Bytes.{dot, is_name_byte, is_numeral_byte, is_digit_or_underscore, is_hex_or_underscore, is_binary_or_underscore}
 use Rattle.luau_lex.specs.Numerals.{begins_numeral, is_exponent_letter, is_exponent_sign, exponent_len, numeral_len, is_digits, is_exponent_or_none, after_fraction, is_decimal, is_hex_part, is_binary_part, is_numeral}
 use Rattle.luau_lex.specs.LongestTokens.{IsExponentMark, IsNumeralWord}
 use Rattle.luau_lex.proofs.LongestLemmas.{run_all}
@@ -182,16 +182,16 @@ pub all_both : (p : ℕ → Bool) (xs ys : List ℕ) → list_all p xs ≡ true 
 all_both p [] ys all more = more
 all_both p (x ∷ xs) ys all more = and_at (p x) (list_all p xs) all (λ here rest. both_at _ _ here (all_both p xs ys rest more))
 
-hex_goes_on : (b : ℕ) → is_hex_or_line b ≡ true → is_name_byte b ≡ true
+hex_goes_on : (b : ℕ) → is_hex_or_underscore b ≡ true → is_name_byte b ≡ true
 hex_goes_on b h = grind arith
 
-binary_goes_on : (b : ℕ) → is_binary_or_line b ≡ true → is_name_byte b ≡ true
+binary_goes_on : (b : ℕ) → is_binary_or_underscore b ≡ true → is_name_byte b ≡ true
 binary_goes_on b h = grind arith
 
-digit_goes_on : (b : ℕ) → is_digit_or_line b ≡ true → is_name_byte b ≡ true
+digit_goes_on : (b : ℕ) → is_digit_or_underscore b ≡ true → is_name_byte b ≡ true
 digit_goes_on b h = grind arith
 
-digit_in_numeral : (b : ℕ) → is_digit_or_line b ≡ true → is_numeral_byte b ≡ true
+digit_in_numeral : (b : ℕ) → is_digit_or_underscore b ≡ true → is_numeral_byte b ≡ true
 digit_in_numeral b h = ap (λ t. t || eqb b dot) h
 
 base_goes_on : (b : ℕ) → (eqb b 120 || eqb b 88) ≡ true → is_name_byte b ≡ true
@@ -210,26 +210,26 @@ based (a ∷ b ∷ word) begins zeroth letter all =
 hex_word : (word : List ℕ) → begins_numeral word ≡ true → slice_index word 0 ≡ 48 → (eqb (slice_index word 1) 120 || eqb (slice_index word 1) 88) ≡ true → is_hex_part (drop 2 word) ≡ true → IsNumeralWord word
 unfolding is_hex_part
 hex_word word begins zeroth base part =
-    and_at (eqb (prefix_len is_hex_or_line (drop 2 word)) (length (drop 2 word))) _ part
+    and_at (eqb (prefix_len is_hex_or_underscore (drop 2 word)) (length (drop 2 word))) _ part
     (λ whole _. based word begins zeroth (base_goes_on (slice_index word 1) base)
-    (all_further is_hex_or_line is_name_byte (drop 2 word) hex_goes_on (all_of_len is_hex_or_line (drop 2 word) (eqb-true _ _ whole))))
+    (all_further is_hex_or_underscore is_name_byte (drop 2 word) hex_goes_on (all_of_len is_hex_or_underscore (drop 2 word) (eqb-true _ _ whole))))
 
 binary_word : (word : List ℕ) → begins_numeral word ≡ true → slice_index word 0 ≡ 48 → (eqb (slice_index word 1) 98 || eqb (slice_index word 1) 66) ≡ true → is_binary_part (drop 2 word) ≡ true → IsNumeralWord word
 unfolding is_binary_part
 binary_word word begins zeroth base part =
-    and_at (eqb (prefix_len is_binary_or_line (drop 2 word)) (length (drop 2 word))) _ part
+    and_at (eqb (prefix_len is_binary_or_underscore (drop 2 word)) (length (drop 2 word))) _ part
     (λ whole _. based word begins zeroth (bits_goes_on (slice_index word 1) base)
-    (all_further is_binary_or_line is_name_byte (drop 2 word) binary_goes_on (all_of_len is_binary_or_line (drop 2 word) (eqb-true _ _ whole))))
+    (all_further is_binary_or_underscore is_name_byte (drop 2 word) binary_goes_on (all_of_len is_binary_or_underscore (drop 2 word) (eqb-true _ _ whole))))
 
 -- a dot and digits, or nothing, stand before what is left after a fraction
-fraction_at : (text : List ℕ) (t : Bool) → eqb (slice_index text 0) dot ≡ t → (front : List ℕ) × (text ≡ front ++ cond t (drop (prefix_len is_digit_or_line (drop 1 text)) (drop 1 text)) text) × (list_all is_numeral_byte front ≡ true)
+fraction_at : (text : List ℕ) (t : Bool) → eqb (slice_index text 0) dot ≡ t → (front : List ℕ) × (text ≡ front ++ cond t (drop (prefix_len is_digit_or_underscore (drop 1 text)) (drop 1 text)) text) × (list_all is_numeral_byte front ≡ true)
 fraction_at text false is = ([], refl, refl)
 fraction_at [] true is = absurd (cc)
 fraction_at (b ∷ text) true is =
-    let n = prefix_len is_digit_or_line text in (
+    let n = prefix_len is_digit_or_underscore text in (
       b ∷ take n text,
       ap (λ l. b ∷ l) (sym (take-append-drop n text)),
-      both_at _ _ (ap is_numeral_byte (eqb-true b dot is)) (all_further is_digit_or_line is_numeral_byte (take n text) digit_in_numeral (run_all is_digit_or_line text)),
+      both_at _ _ (ap is_numeral_byte (eqb-true b dot is)) (all_further is_digit_or_underscore is_numeral_byte (take n text) digit_in_numeral (run_all is_digit_or_underscore text)),
     )
 
 fraction : (text : List ℕ) → (front : List ℕ) × (text ≡ front ++ after_fraction text) × (list_all is_numeral_byte front ≡ true)
@@ -250,20 +250,20 @@ exponent_at text false is h =
       drop e text,
       sym (take-append-drop e text),
       read_mark text,
-      all_further is_digit_or_line is_name_byte (drop e text) digit_goes_on (all_of_len is_digit_or_line (drop e text) (eqb-true _ _ whole)),
+      all_further is_digit_or_underscore is_name_byte (drop e text) digit_goes_on (all_of_len is_digit_or_underscore (drop e text) (eqb-true _ _ whole)),
     )))
 
 decimal_word : (word : List ℕ) → begins_numeral word ≡ true → is_decimal word ≡ true → IsNumeralWord word
 unfolding is_decimal is_exponent_or_none
 decimal_word word begins is =
-    let p = prefix_len is_digit_or_line word in
+    let p = prefix_len is_digit_or_underscore word in
     let f = fraction (drop p word) in
     let text = after_fraction (drop p word) in
     let x = exponent_at text (eqb (length text) 0) refl is in
     let digits = take p word ++ f.0 in
     let whole : word ≡ digits ++ (x.0 ++ x.1) =
     sym (take-append-drop p word) ∙ ap (λ l. take p word ++ l) (f.1 ∙ ap (λ l. f.0 ++ l) x.2) ∙ sym (append_assoc (take p word) f.0 (x.0 ++ x.1)) in
-    let all = all_both is_numeral_byte (take p word) f.0 (all_further is_digit_or_line is_numeral_byte (take p word) digit_in_numeral (run_all is_digit_or_line word)) f.2 in
+    let all = all_both is_numeral_byte (take p word) f.0 (all_further is_digit_or_underscore is_numeral_byte (take p word) digit_in_numeral (run_all is_digit_or_underscore word)) f.2 in
     (digits, x.0, x.1, whole, begins, all, x.3, x.4)
 
 choose_is : {C : Type 0} (t : Bool) (x y : Bool) → cond t x y ≡ true → (t ≡ true → x ≡ true → C) → (t ≡ false → y ≡ true → C) → C
