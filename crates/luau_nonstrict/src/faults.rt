@@ -1,11 +1,12 @@
 //! Counting faults.
-ghost use Rattle.std.specs.Prelude.{◌≡◌, ◌+◌, ◌-◌, ◌^◌, ◌≤◌, min};
+ghost use Rattle.std.specs.Prelude.{◌≡◌, ◌+◌, ◌-◌, ◌^◌, ◌<◌, ◌≤◌, min};
 ghost use Rattle.outside.specs.Cause.{Rose};
 
 /// How often something has failed. The count stops at `u64::MAX`.
 #[derive(Debug, Drop)]
 pub struct FaultCount {
     pub count: u64,
+    pub ghost bounded: { count < 2 ^ 64 },
 }
 
 impl FaultCount {

@@ -60,6 +60,8 @@ impl<R: Files + Alloc + Clone + Drop> Tree for FolderTree<R> {
 
     ghost ordered = { λ _. tt };
 
+    ghost bounded = { λ tree. tree.faults.bounded };
+
     fn list(&mut self, alloc: Global, root: &str) -> Result<Vec<String>, TreeError> {
         match list_files(&self.rt, alloc, root, TURNS) {
             Ok(paths) => Ok(paths),

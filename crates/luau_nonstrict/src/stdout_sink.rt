@@ -35,6 +35,8 @@ impl<P: Print> Sink for StdoutSink<P> {
 
     ghost faults = { λ sink. sink.faults.count };
 
+    ghost bounded = { λ sink. sink.faults.bounded };
+
     fn write(&mut self, bytes: &[u8]) -> Result<usize, SinkFailed> {
         let written = write_some(&self.out, bytes);
         if !matches!(written, Ok(1..)) {

@@ -50,10 +50,13 @@ impl Sink for SureSink {
     ghost use Rattle.outside.specs.Cause.{Rose};
     ghost use Rattle.outside.specs.Written.{Appends};
     ghost use Rattle.outside.specs.SureSink.{expected_of, faults_of, told_after, written_to};
+    ghost use Rattle.std.proofs.Common.{lit<};
 
     ghost written = { written_to };
 
     ghost faults = { faults_of };
+
+    ghost bounded = { λ _. lit< tt };
 
     fn write(&mut self, bytes: &[u8]) -> Result<usize, SinkFailed>
         ensures within { IfOk result (λ n. n ≤ length bytes.now) }

@@ -44,6 +44,8 @@ impl Tree for MemoryTree {
 
     ghost ordered = { λ tree. files_of-IsOrdered tree.roots };
 
+    ghost bounded = { λ tree. tree.plan.bounded };
+
     fn list(&mut self, alloc: Global, root: &str) -> Result<Vec<String>, TreeError>
         ensures listed { IfOk result (λ paths. map string_bytes paths.items ≡ paths_of (contents_of self.old root.now)) }
         ensures never_absent { result ≢ Err TreeError.Absent }
