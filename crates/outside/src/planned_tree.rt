@@ -93,8 +93,7 @@ impl Tree for MemoryTree {
         if fails {
             return Err(TreeError::Failed);
         }
-        let files = files_of(self.roots.as_slice(), root);
-        match file_at(files, path) {
+        match file_at(self.roots.as_slice(), root, path) {
             Some(file) => Ok(front(alloc, file.as_slice(), at_most)?),
             None => Err(TreeError::Absent),
         }

@@ -48,8 +48,7 @@ impl Tree for SureTree {
         path: &str,
         at_most: u64,
     ) -> Result<Vec<u8>, TreeError> {
-        let files = files_of(self.roots.as_slice(), root);
-        match file_at(files, path) {
+        match file_at(self.roots.as_slice(), root, path) {
             Some(file) => Ok(front(alloc, file.as_slice(), at_most)?),
             None => Err(TreeError::Absent),
         }
