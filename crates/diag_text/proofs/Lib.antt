@@ -1,3 +1,3 @@
-pub mod Ordered
+pub mod Sorted
 pub mod Lines
 pub mod Printable

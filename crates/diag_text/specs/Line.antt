@@ -1,12 +1,12 @@
 -- Lines of output: their text, and their order.
-use Rattle.std.specs.Prelude.{ℕ, ◌≤◌, ◌≢◌, ◌==◌, ◌||◌, nat_lt, if◌then◌else◌, List, [], ◌∷◌, ◌++◌, map, codes, decimal}
+use Rattle.std.specs.Prelude.{ℕ, ◌≤◌, ◌≢◌, ◌==◌, ◌||◌, nat_lt, if◌then◌else◌, List, ◌++◌, map, codes, decimal}
 use Rattle.std.specs.declared.cmp.Ordering.{Ordering}
 use Rattle.std.specs.Ordering.{nat_cmp, on, then_cmp}
 use Rattle.std.specs.Cmp.Lexicographic.{slice_cmp}
-use Rattle.std.specs.BTreeSet.{insert_key}
 use Rattle.diag_text.specs.declared.line.Line.{Line}
 use Rattle.diag_text.specs.declared.line.LineKind.{LineKind}
 use Rattle.diag_text.specs.declared.line.LineKind.TheVariants.{Refused, Skipped, Argument, Missing, Operand, Value, Parameter}
+use Rattle.diag_text.specs.Sorted.{sorted_by}
 
 -- a byte as a text line shows it: a control character, which is below 32 or 127, as `?`
 abbrev pub printable_byte : ℕ → ℕ
@@ -42,7 +42,6 @@ bytes_cmp = slice_cmp nat_cmp
 abbrev pub line_cmp : Line → Line → Ordering
 line_cmp = then_cmp (on (λ l. l.path) bytes_cmp) (then_cmp (on (λ l. l.at.line) nat_cmp) (then_cmp (on (λ l. l.at.column) nat_cmp) (then_cmp (on (λ l. kind_rank l.kind) nat_cmp) (on (λ l. l.message) bytes_cmp))))
 
--- the lines in order, each once: every line is put in its place among the others, unless it is there already
+-- the lines in order, each once
 abbrev pub sorted_lines : List Line → List Line
-sorted_lines [] = []
-sorted_lines (line ∷ rest) = insert_key line_cmp (sorted_lines rest) line
+sorted_lines = sorted_by line_cmp

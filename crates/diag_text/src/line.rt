@@ -23,9 +23,13 @@ pub enum LineKind {
 /// are ordered by path, place, kind and message.
 #[derive(Debug, Drop, PartialEq, Eq, PartialOrd, Ord)]
 pub struct Line {
+    /// The file's path in its folder, as bytes.
     pub path: Bytes,
+    /// The place in the file: line and column from 1, the column in bytes.
     pub at: Pos,
+    /// What the line tells.
     pub kind: LineKind,
+    /// The message, as bytes, without a line feed at its end.
     pub message: Bytes,
 }
 

@@ -1,10 +1,10 @@
-ghost use Rattle.std.specs.Prelude.{◌≡◌, ◌↔◌, Contains, IsOkAnd, AllPairs};
+ghost use Rattle.std.specs.Prelude.{◌≡◌, ◌↔◌, IsOkAnd};
 ghost use Rattle.std.specs.Cmp.{IsTotalOrder};
-ghost use Rattle.std.specs.declared.cmp.Ordering.TheVariants.{Less, Equal};
-ghost use Rattle.diag_text.specs.declared.line.Line.{Line};
+ghost use Rattle.std.specs.declared.cmp.Ordering.TheVariants.{Equal};
 ghost use Rattle.diag_text.specs.Line.{line_cmp, sorted_lines};
 
 use crate::line::Line;
+use crate::sorting::sort_once;
 use std::alloc::AllocError;
 
 /// The lines in the order of path, place, kind and message, each once. Sorts in place and takes no memory, so
@@ -12,10 +12,7 @@ use std::alloc::AllocError;
 pub fn sort_lines(lines: Vec<Line>) -> Result<Vec<Line>, AllocError>
     ensures { IsOkAnd result (λ sorted. sorted.items ≡ sorted_lines lines.items) }
 {
-    let mut lines = lines;
-    lines.sort_unstable();
-    lines.dedup();
-    Ok(lines)
+    Ok(sort_once(lines))
 }
 
 /// Lines are compared by a total order.
@@ -26,23 +23,6 @@ pub fn lines_are_ordered()
 /// Only equal lines tie.
 pub fn only_equal_lines_tie(a: &Line, b: &Line)
     ensures { (line_cmp a.now b.now ≡ Equal) ↔ (a.now ≡ b.now) }
-{}
-
-/// Of the sorted lines, each comes before all later ones.
-pub fn sorted_lines_are_in_order(lines: &[Line])
-    ensures { AllPairs (λ a b. line_cmp a b ≡ Less) (sorted_lines lines.now) }
-{}
-
-/// The sorted lines are the lines themselves.
-pub fn sorted_lines_have_the_lines(lines: &[Line], line: &Line)
-    ensures { Contains (sorted_lines lines.now) line.now ↔ Contains lines.now line.now }
-{}
-
-/// No other list in order has the same lines.
-pub fn sorted_lines_are_determined(lines: &[Line], other: &[Line])
-    requires in_order { AllPairs (λ a b. line_cmp a b ≡ Less) other.now }
-    requires same { (line : Line) → (Contains other.now line ↔ Contains lines.now line) }
-    ensures { other.now ≡ sorted_lines lines.now }
 {}
 
 #[cfg(test)]

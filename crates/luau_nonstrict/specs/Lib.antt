@@ -1,4 +1,3 @@
 pub mod Place
 pub mod Moved
 pub mod Visible
-pub mod Word

@@ -10,9 +10,9 @@ mod turns;
 mod walk;
 
 ghost use Rattle.std.specs.IoError.{error_kind};
-ghost use Rattle.std.specs.Prelude.{◌≡◌, ◌≢◌, option_copied};
+ghost use Rattle.std.specs.Prelude.{◌≡◌, ◌≢◌};
 ghost use Rattle.std.specs.Process.{exit_status};
-ghost use Rattle.luau_nonstrict.specs.Word.{word};
+ghost use Rattle.nonstrict_cli.specs.Status.{code_of};
 
 use folder_tree::FolderTree;
 use nonstrict_cli::{Status, nonstrict};
@@ -24,7 +24,7 @@ use stdout_sink::StdoutSink;
 
 fn main(rt: HostRuntime) -> ExitCode {
     let status = run(&rt);
-    end(&rt, status.code())
+    end(&rt, status)
 }
 
 /// Runs the command that the program's words are.
@@ -58,27 +58,13 @@ fn words<R: Env + AllocGlobal>(rt: &R) -> io::Result<Vec<String>> {
 
 /// Tells standard error the word for a status, where it has one, and gives the exit status, which is the same even
 /// where standard error can't be told.
-fn end(rt: &impl Eprint, code: u8) -> ExitCode
-    ensures { exit_status result ≡ code }
+fn end(rt: &impl Eprint, status: Status) -> ExitCode
+    ensures { exit_status result ≡ code_of status }
 {
-    if let Some(word) = word_of(code) {
+    if let Some(word) = status.word() {
         let _ = eprintln!(rt; "luau-nonstrict: {word}");
     }
-    ExitCode::from(code)
-}
-
-/// The word for a status, where it has one.
-fn word_of(code: u8) -> Option<&'static str>
-    ensures { option_copied result ≡ word code }
-{
-    match code {
-        64 => Some("usage"),
-        65 => Some("too large"),
-        66 => Some("read fault"),
-        71 => Some("no memory"),
-        74 => Some("write fault"),
-        _ => None,
-    }
+    ExitCode::from(status.code())
 }
 
 #[cfg(test)]

@@ -1,7 +1,7 @@
 -- Writing a text piece by piece.
-use Rattle.std.proofs.Common.{◌+◌, ◌≤◌, ◌++◌, ℕ, List, Option, None, Some, length, take, drop, ap, ◌∙◌, append_assoc}
+use Rattle.std.proofs.Common.{◌+◌, ◌++◌, ℕ, List, Option, None, Some, take, drop, ap, ◌∙◌, append_assoc}
+use Rattle.std.proofs.Math.Seq.{take-add}
 use Rattle.outside.specs.Written.{Appends}
-use Rattle.outside.proofs.Fronts.{take-add}
 
 -- one piece after the other is both
 joined : (first second third : Option (List ℕ)) (xs ys : List ℕ) → Appends first second xs → Appends second third ys → Appends first third (xs ++ ys)
@@ -11,5 +11,5 @@ joined None (Some then) (Some now) xs ys a b = absurd a
 joined (Some at) (Some then) (Some now) xs ys a b = b ∙ ap (λ l. l ++ ys) a ∙ append_assoc at xs ys
 
 -- a front of the rest goes behind the front that is written
-pub appended : (first second third : Option (List ℕ)) (text : List ℕ) (done count : ℕ) → done ≤ length text → Appends first second (take done text) → Appends second third (take count (drop done text)) → Appends first third (take (done + count) text)
-appended first second third text done count h a b = rw (take-add text done count h) (joined first second third (take done text) (take count (drop done text)) a b)
+pub appended : (first second third : Option (List ℕ)) (text : List ℕ) (done count : ℕ) → Appends first second (take done text) → Appends second third (take count (drop done text)) → Appends first third (take (done + count) text)
+appended first second third text done count a b = rw (take-add done count text) (joined first second third (take done text) (take count (drop done text)) a b)

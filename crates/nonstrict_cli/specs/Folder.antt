@@ -1,6 +1,5 @@
 -- The lines of a folder.
 use Rattle.std.specs.Prelude.{Result, Ok, Err, drop, ◌+◌, ◌-◌, ◌++◌, ◌||◌, ℕ, Bool, List, [], ◌∷◌, Option, None, Some, unwrap_or, map, filter, flat_map, take, length, nat_eq, nat_lt, codes, if◌then◌else◌, option_map}
-use Rattle.std.specs.BTreeSet.{insert_key}
 use Rattle.std.specs.List.{ends_with, list_any, starts_with}
 use Rattle.std.specs.Str.{bytes_eq}
 use Rattle.luau_tree.specs.declared.position.Pos.{Pos}
@@ -9,6 +8,7 @@ use Rattle.luau_tree.specs.Position.{pos_at}
 use Rattle.diag_text.specs.declared.line.Line.{Line}
 use Rattle.diag_text.specs.declared.line.LineKind.TheVariants.{Refused, Argument}
 use Rattle.diag_text.specs.Line.{bytes_cmp, sorted_lines}
+use Rattle.diag_text.specs.Sorted.{sorted_by}
 use Rattle.outside.specs.Contents.{File, file_at, paths_of}
 use Rattle.nonstrict_cli.specs.declared.status.Limit.{Limit}
 use Rattle.nonstrict_cli.specs.declared.status.Limit.TheVariants.{Files, Bytes}
@@ -22,10 +22,9 @@ use Rattle.nonstrict_cli.specs.Form.{faults_in}
 abbrev pub is_module_path : List ℕ → Bool
 is_module_path path = ends_with nat_eq path (codes ".luau") || ends_with nat_eq path (codes ".lua")
 
--- some paths in the order of their bytes, each once: every path is put in its place among the others, unless it is there already
+-- some paths in the order of their bytes, each once
 abbrev pub sorted_paths : List (List ℕ) → List (List ℕ)
-sorted_paths [] = []
-sorted_paths (path ∷ rest) = insert_key bytes_cmp (sorted_paths rest) path
+sorted_paths = sorted_by bytes_cmp
 
 -- the paths of the modules among some paths, in order
 abbrev pub modules_among : List (List ℕ) → List (List ℕ)

@@ -1,5 +1,5 @@
 -- How a run ends.
-use Rattle.std.specs.Prelude.{ℕ}
+use Rattle.std.specs.Prelude.{ℕ, List, Option, None, Some, codes}
 use Rattle.nonstrict_cli.specs.declared.status.Status.{Status}
 use Rattle.nonstrict_cli.specs.declared.status.Status.TheVariants.{Clean, Reports, Refused, Usage, TooLarge, ReadFault, NoMemory, WriteFault}
 
@@ -13,6 +13,17 @@ code_of (TooLarge limit) = 65
 code_of ReadFault = 66
 code_of NoMemory = 71
 code_of WriteFault = 74
+
+-- the word for standard error; a status at which the folder was checked has none
+abbrev pub word_of : Status → Option (List ℕ)
+word_of Clean = None
+word_of Reports = None
+word_of Refused = None
+word_of Usage = Some (codes "usage")
+word_of (TooLarge limit) = Some (codes "too large")
+word_of ReadFault = Some (codes "read fault")
+word_of NoMemory = Some (codes "no memory")
+word_of WriteFault = Some (codes "write fault")
 
 -- the run got to its answer: neither the folder, nor memory, nor the output failed
 abbrev pub IsAnswer : Status → Type 0

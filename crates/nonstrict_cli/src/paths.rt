@@ -4,8 +4,9 @@ ghost use Rattle.std.specs.List.{list_any};
 ghost use Rattle.std.specs.List.Sorted.{IsSorted};
 ghost use Rattle.std.specs.Str.{bytes_eq};
 ghost use Rattle.diag_text.specs.Line.{bytes_cmp};
-ghost use Rattle.nonstrict_cli.specs.Folder.{is_init, is_module_path, modules_among, sorted_paths, twin_of};
+ghost use Rattle.nonstrict_cli.specs.Folder.{is_init, is_module_path, modules_among, twin_of};
 
+use diag_text::sort_once;
 use luau_tree::{Bytes, Text};
 use std::alloc::{AllocError, Global};
 
@@ -15,16 +16,6 @@ fn is_module_path(path: &str) -> bool
 {
     let bytes = path.as_bytes();
     bytes.ends_with(b".luau") || bytes.ends_with(b".lua")
-}
-
-/// The paths in order, each once. Sorts in place.
-fn sorted(mut paths: Vec<Text>) -> Vec<Text>
-    ensures paths { result.items ≡ sorted_paths paths.items }
-    ensures order { IsSorted bytes_cmp result.items }
-{
-    paths.sort_unstable();
-    paths.dedup();
-    paths
 }
 
 /// The paths that are those of modules, in order, each once.
@@ -38,7 +29,7 @@ pub(crate) fn modules_among(alloc: Global, paths: Vec<String>) -> Result<Vec<Tex
             kept.push(Text::of(path))?;
         }
     }
-    Ok(sorted(kept))
+    Ok(sort_once(kept))
 }
 
 /// The same paths as bytes, in the same order.

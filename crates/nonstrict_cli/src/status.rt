@@ -1,5 +1,5 @@
-ghost use Rattle.std.specs.Prelude.{◌≡◌};
-ghost use Rattle.nonstrict_cli.specs.Status.{code_of};
+ghost use Rattle.std.specs.Prelude.{◌≡◌, option_copied};
+ghost use Rattle.nonstrict_cli.specs.Status.{code_of, word_of};
 
 /// A limit that a folder passes.
 #[derive(Clone, Copy, Debug, PartialEq, Eq)]
@@ -46,6 +46,19 @@ impl Status {
             Status::ReadFault => 66,
             Status::NoMemory => 71,
             Status::WriteFault => 74,
+        }
+    }
+    /// The word for standard error, where the status has one.
+    pub fn word(&self) -> Option<&'static str>
+        ensures { option_copied result ≡ word_of self.now }
+    {
+        match self {
+            Status::Clean | Status::Reports | Status::Refused => None,
+            Status::Usage => Some("usage"),
+            Status::TooLarge(_) => Some("too large"),
+            Status::ReadFault => Some("read fault"),
+            Status::NoMemory => Some("no memory"),
+            Status::WriteFault => Some("write fault"),
         }
     }
 }

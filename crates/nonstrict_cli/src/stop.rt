@@ -8,16 +8,16 @@ use thiserror::Error;
 #[derive(Clone, Copy, Debug, PartialEq, Eq, Error)]
 pub(crate) enum Stop {
     /// The words are no command.
-    #[error("usage")]
+    #[error("the words are no command")]
     Usage,
     /// The folder passes a limit.
-    #[error("too large")]
+    #[error("the folder passes a limit")]
     TooLarge(Limit),
     /// The folder could not be read.
-    #[error("read fault")]
+    #[error("the folder can't be read")]
     ReadFault,
     /// Memory ran out.
-    #[error("no memory")]
+    #[error("memory ran out")]
     NoMemory,
 }
 

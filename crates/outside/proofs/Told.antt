@@ -16,7 +16,7 @@ front_then (x ∷ xs) piece (suc n) h = ap (λ b. b && pointwise nat_eq (take n 
 pub told-next : (expected piece : List ℕ) (n : ℕ) (matches : Bool) → n ≤ length expected → (matches && starts_with nat_eq (drop n expected) piece) ≡ true → (if matches then Some (take (n + length piece) expected) else None) ≡ told_after expected (if matches then Some (take n expected) else None) piece
 told-next expected piece n false h e = refl
 told-next expected piece n true h e =
-    ap Some (front_grows expected piece n h e) ∙ ap (λ fits. if fits then Some (take n expected ++ piece) else None) (sym (front_then expected piece n h ∙ e))
+    ap Some (front_grows expected piece n e) ∙ ap (λ fits. if fits then Some (take n expected ++ piece) else None) (sym (front_then expected piece n h ∙ e))
 
 -- from what isn't, nothing is told
 pub told-other : (expected piece : List ℕ) (n : ℕ) (matches : Bool) → n ≤ length expected → (matches && starts_with nat_eq (drop n expected) piece) ≡ false → None ≡ told_after expected (if matches then Some (take n expected) else None) piece

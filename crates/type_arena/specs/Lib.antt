@@ -1,5 +1,4 @@
 pub mod Arena
-pub mod Clones
 pub mod Frozen
 pub mod Homes
 pub mod Meaning

@@ -34,7 +34,7 @@ impl Frozen {
     }
 
     /// An arena of the same home, with the same nodes at the same references.
-    #[tactic(auto, using(crate::proofs::CloneLemmas::same_items))]
+    #[tactic(auto, using(crate::proofs::CloneLemmas::same_nodes))]
     pub fn copy(&self, _alloc: Global) -> Result<Frozen, AllocError>
         ensures { IfOk result (λ copy. holding_of copy ≡ holding_of self.now) }
     {

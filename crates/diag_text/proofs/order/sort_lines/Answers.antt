@@ -1,20 +1,16 @@
--- `<` and `==` of lines, which are derived, are those of the definition.
-use Rattle.std.proofs.Common.{◌≡◌, Bool, ◌∙◌, refl, ap, subst}
+-- The order of lines, which is derived, is that of the definition.
+use Rattle.std.proofs.Common.{◌≡◌, ◌∙◌, refl, ap, sym}
 use Rattle.std.specs.declared.cmp.Ordering.{Ordering}
 use Rattle.std.specs.declared.cmp.Ordering.TheVariants.{Less, Equal, Greater}
-use Rattle.std.specs.Ordering.{nat_cmp, is_eq, ordering_then, eq_by_cmp}
-use Rattle.std.specs.List.{dedup}
-use Rattle.std.specs.List.Sorted.{IsSorted}
-use Rattle.std.proofs.lemmas.List.Filters.{dedup_is}
+use Rattle.std.specs.Ordering.{nat_cmp, ordering_then}
 use Rattle.diag_text.specs.declared.line.Line.{Line}
 use Rattle.diag_text.specs.declared.line.LineKind.{LineKind}
 use Rattle.diag_text.specs.declared.line.LineKind.TheVariants.{Refused, Skipped, Argument, Missing, Operand, Value, Parameter}
 use Rattle.diag_text.specs.contracts.line.LineOrd.TheImpl as lines
-use Rattle.diag_text.specs.contracts.line.LineOrd.TheImpl.Laws.{matches_eq-law}
-use Rattle.diag_text.specs.contracts.line.LinePartialEq.TheImpl as equals
 use Rattle.diag_text.specs.contracts.line.LineKindOrd.TheImpl as kinds
 use Rattle.diag_text.specs.Line.{bytes_cmp, kind_rank, line_cmp}
-use Rattle.diag_text.proofs.Lines.{sorted_and_deduped}
+use Rattle.diag_text.specs.Sorted.{sorted_by}
+use Rattle.diag_text.proofs.Lines.{same_line}
 use Rattle.diag_text.proofs.order.sort_lines.Goals as goal
 
 -- the kinds are ordered as they are declared
@@ -46,15 +42,8 @@ grouped Equal Equal c k j m e = ap (λ r. ordering_then c (ordering_then r m)) e
 agree : (a b : Line) → (lines.ghosts).cmp a b ≡ line_cmp a b
 agree a b = grouped (bytes_cmp a.path b.path) (nat_cmp a.at.line b.at.line) (nat_cmp a.at.column b.at.column) _ _ (bytes_cmp a.message b.message) (kinds_agree a.kind b.kind)
 
--- `==` of lines holds where they tie
-ties : (a b : Line) → (equals.ghosts).eq a b ≡ eq_by_cmp line_cmp a b
-ties a b = matches_eq-law a b ∙ ap is_eq (agree a b)
+pub sort_once-requires : goal.sort_once-requires
+sort_once-requires c = λ a b e. same_line a b (sym (agree a b) ∙ e)
 
 pub returns : goal.returns
-returns c =
-    let moved = c.sort_unstable.new.self.items in
-    let P : (Line → Line → Ordering) → Type 0 = λ cmp. IsSorted cmp moved in
-    let sorted = subst P (λ i a b. agree a b i) c.sort_unstable.ensures.sorted in
-    let once = dedup_is _ _ _ c.dedup.ensures.filtered in
-    let by_order = ap (λ (eq : Line → Line → Bool). dedup eq moved) (λ i a b. ties a b i) in
-    once ∙ by_order ∙ sorted_and_deduped c.args.lines.items moved c.sort_unstable.ensures.permutation sorted
+returns c = c.sort_once.ensures.values ∙ ap (λ (cmp : Line → Line → Ordering). sorted_by cmp c.args.lines.items) (λ i a b. agree a b i)

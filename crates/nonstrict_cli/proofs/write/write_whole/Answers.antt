@@ -16,6 +16,6 @@ loop-done-preserved g c =
     subst (λ (rest : List ℕ). Appends (g.S.Sink.written c.loop-done.sink) (g.S.Sink.written c.write.new.self) (take count rest)) whole c.in-Ok.ensures.appends in
     let some : 0 < count = grind (arith, c.if-count-eq0.false) in (
       omega (arith, length-drop done text),
-      appended (g.S.Sink.written c.args.sink.now) (g.S.Sink.written c.loop-done.sink) (g.S.Sink.written c.write.new.self) text done count c.loop-done.invariant.0 c.loop-done.invariant.1 piece,
+      appended (g.S.Sink.written c.args.sink.now) (g.S.Sink.written c.loop-done.sink) (g.S.Sink.written c.write.new.self) text done count c.loop-done.invariant.1 piece,
       c.in-Ok.ensures.quiet some ∙ c.loop-done.invariant.2,
     )

@@ -16,4 +16,4 @@ returns-else-goes_on-clause-told c =
 -- what was expected next is appended
 pub returns-then-goes_on-clause-appends : goal.returns-then-goes_on-clause-appends
 returns-then-goes_on-clause-appends c =
-    told_grows c.args.self.now.expected.items c.args.bytes.now c.args.self.now.count c.args.self.now.matches c.args.self.now.within (sym c.goes_on.ensures ∙ c.if-goes_on.true)
+    told_grows c.args.self.now.expected.items c.args.bytes.now c.args.self.now.count c.args.self.now.matches (sym c.goes_on.ensures ∙ c.if-goes_on.true)
