@@ -1,11 +1,13 @@
 //! Counting faults.
-ghost use Rattle.std.specs.Prelude.{◌≡◌, ◌+◌, ◌-◌, ◌^◌, ◌≤◌, min};
+ghost use Rattle.std.specs.Prelude.{◌≡◌, ◌^◌, ◌<◌, ◌≤◌};
 ghost use Rattle.outside.specs.Cause.{Rose};
+ghost use Rattle.outside.specs.Memory.{count_after};
 
 /// How often something has failed. The count stops at `u64::MAX`.
 #[derive(Debug, Drop)]
 pub struct FaultCount {
     pub count: u64,
+    pub ghost bounded: { count < 2 ^ 64 },
 }
 
 impl FaultCount {
@@ -18,7 +20,7 @@ impl FaultCount {
 
     /// Counts one more fault.
     pub fn rise(&mut self)
-        ensures one_more { self.new.count ≡ min (self.old.count + 1) (2 ^ 64 - 1) }
+        ensures one_more { self.new.count ≡ count_after self.old.count }
         ensures rose { Rose self.old.count self.new.count }
         ensures no_less { self.old.count ≤ self.new.count }
     {

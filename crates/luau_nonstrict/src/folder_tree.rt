@@ -1,7 +1,9 @@
 //! The folders of the file system.
-ghost use Rattle.std.specs.Prelude.{◌≡◌, ◌≢◌, ◌≤◌, ◌↔◌};
+ghost use Rattle.std.specs.Prelude.{◌≡◌, ◌≢◌, ◌≤◌, ◌↔◌, IfOk, IfSome, length};
 ghost use Rattle.std.specs.IoError.{error_kind};
 ghost use Rattle.outside.specs.Cause.{Rose};
+ghost use Rattle.outside.specs.Memory.{count_after};
+ghost use Rattle.luau_nonstrict.specs.Moved.{IsFront};
 
 use crate::faults::FaultCount;
 use crate::front::front;
@@ -38,6 +40,7 @@ impl<R> FolderTree<R> {
     fn fault(&mut self, error: io::Error) -> TreeError
         ensures never_absent { result ≢ TreeError.Absent }
         ensures failed { result ≡ TreeError.Failed → Rose self.old.faults.count self.new.faults.count }
+        ensures once { result ≡ TreeError.Failed → self.new.faults.count ≡ count_after self.old.faults.count }
         ensures no_memory { (result ≡ TreeError.NoMemory) ↔ (error_kind error ≡ ErrorKind.OutOfMemory) }
         ensures quiet { result ≡ TreeError.NoMemory → self.new.faults.count ≡ self.old.faults.count }
         ensures never_falls { self.old.faults.count ≤ self.new.faults.count }
@@ -52,7 +55,9 @@ impl<R> FolderTree<R> {
 }
 
 impl<R: Files + Alloc + Clone + Drop> Tree for FolderTree<R> {
-    ghost use Rattle.std.specs.Prelude.{None};
+    ghost use Rattle.std.specs.Prelude.{All, None, OnOk, string_bytes};
+    ghost use Rattle.std.specs.List.Sorted.{IsSorted};
+    ghost use Rattle.luau_nonstrict.specs.Visible.{IsVisible};
 
     ghost contents = { λ _. None };
 
@@ -60,7 +65,20 @@ impl<R: Files + Alloc + Clone + Drop> Tree for FolderTree<R> {
 
     ghost ordered = { λ _. tt };
 
-    fn list(&mut self, alloc: Global, root: &str) -> Result<Vec<String>, TreeError> {
+    ghost bounded = { λ tree. tree.faults.bounded };
+
+    fn list(&mut self, alloc: Global, root: &str) -> Result<Vec<String>, TreeError>
+        ensures never_absent { result ≢ Err TreeError.Absent }
+        ensures failed { result ≡ Err TreeError.Failed → Rose self.old.faults.count self.new.faults.count }
+        ensures quiet { OnOk result (self.new.faults.count ≡ self.old.faults.count) }
+        ensures no_memory { result ≡ Err TreeError.NoMemory → self.new.faults.count ≡ self.old.faults.count }
+        ensures never_falls { self.old.faults.count ≤ self.new.faults.count }
+
+        // What is listed is sorted, and no hidden folder is on the way to it. A failure counts once.
+        ensures sorted { IfOk result (λ paths. IsSorted ⟦<String as Ord>⟧.cmp paths.items) }
+        ensures visible { IfOk result (λ paths. All (λ path. IsVisible (string_bytes path)) paths.items) }
+        ensures once { result ≡ Err TreeError.Failed → self.new.faults.count ≡ count_after self.old.faults.count }
+    {
         match list_files(&self.rt, alloc, root, TURNS) {
             Ok(paths) => Ok(paths),
             Err(error) => Err(self.fault(error)),
@@ -73,7 +91,20 @@ impl<R: Files + Alloc + Clone + Drop> Tree for FolderTree<R> {
         root: &str,
         path: &str,
         at_most: u64,
-    ) -> Result<Vec<u8>, TreeError> {
+    ) -> Result<Vec<u8>, TreeError>
+        ensures absent { result ≡ Err TreeError.Absent → Rose self.old.faults.count self.new.faults.count }
+        ensures failed { result ≡ Err TreeError.Failed → Rose self.old.faults.count self.new.faults.count }
+        ensures quiet { OnOk result (self.new.faults.count ≡ self.old.faults.count) }
+        ensures no_memory { result ≡ Err TreeError.NoMemory → self.new.faults.count ≡ self.old.faults.count }
+        ensures never_falls { self.old.faults.count ≤ self.new.faults.count }
+
+        // What is read is the front of a file, and no more than is asked for. A failure counts once, and so does an
+        // absent file.
+        ensures front { IfOk result (λ bytes. IsFront R.File.remaining at_most bytes.items) }
+        ensures within { IfOk result (λ bytes. length bytes.items ≤ at_most) }
+        ensures once { result ≡ Err TreeError.Failed → self.new.faults.count ≡ count_after self.old.faults.count }
+        ensures once_absent { result ≡ Err TreeError.Absent → self.new.faults.count ≡ count_after self.old.faults.count }
+    {
         match read_front(&self.rt, alloc, root, path, at_most) {
             Ok(Some(bytes)) => Ok(bytes),
             Ok(None) => {
@@ -92,7 +123,10 @@ fn read_front<R: Files>(
     root: &str,
     path: &str,
     at_most: u64,
-) -> io::Result<Option<Vec<u8>>> {
+) -> io::Result<Option<Vec<u8>>>
+    ensures front { IfOk result (λ found. IfSome found (λ bytes. IsFront R.File.remaining at_most bytes.items)) }
+    ensures within { IfOk result (λ found. IfSome found (λ bytes. length bytes.items ≤ at_most)) }
+{
     let place = place_of(alloc, root, path)?;
     if !is_file(rt, place.as_str(), root.is_empty())? {
         return Ok(None);

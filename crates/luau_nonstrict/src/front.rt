@@ -1,5 +1,5 @@
 //! The front of a file.
-ghost use Rattle.std.specs.Prelude.{◌≡◌, ◌<◌, IfOk, IfSome, false, length, take};
+ghost use Rattle.std.specs.Prelude.{◌≡◌, ◌<◌, ◌≤◌, IfOk, IfSome, false, length, take};
 ghost use Rattle.std.specs.Io.KnownBytes.{IsAtEnd};
 ghost use Rattle.luau_nonstrict.specs.Moved.{Moves};
 
@@ -14,7 +14,8 @@ const CHUNK: usize = 8192;
 /// The first `at_most` bytes of a file, or all of a shorter one. It reads no more of it than that, and fails where
 /// `TURNS` reads are too few.
 pub fn front<F: Read>(alloc: Global, file: &mut F, at_most: u64) -> io::Result<Vec<u8>>
-    ensures { IfOk result (λ bytes. IfSome (F.remaining file.old) (λ all. bytes.items ≡ take at_most all)) }
+    ensures front { IfOk result (λ bytes. IfSome (F.remaining file.old) (λ all. bytes.items ≡ take at_most all)) }
+    ensures within { IfOk result (λ bytes. length bytes.items ≤ at_most) }
 {
     let mut bytes = Vec::new(alloc);
     let mut buffer = [0u8; CHUNK];

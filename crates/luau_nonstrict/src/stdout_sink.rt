@@ -29,13 +29,27 @@ impl<P> StdoutSink<P> {
 }
 
 impl<P: Print> Sink for StdoutSink<P> {
-    ghost use Rattle.std.specs.Prelude.{None};
+    ghost use Rattle.std.specs.Prelude.{◌<◌, None, OnErr};
+    ghost use Rattle.outside.specs.Cause.{Rose};
+    ghost use Rattle.outside.specs.Memory.{count_after};
 
     ghost written = { λ _. None };
 
     ghost faults = { λ sink. sink.faults.count };
 
-    fn write(&mut self, bytes: &[u8]) -> Result<usize, SinkFailed> {
+    ghost bounded = { λ sink. sink.faults.bounded };
+
+    fn write(&mut self, bytes: &[u8]) -> Result<usize, SinkFailed>
+        ensures within { IfOk result (λ n. n ≤ length bytes.now) }
+        ensures failed { OnErr result (Rose self.old.faults.count self.new.faults.count) }
+        ensures idle { result ≡ Ok 0 → 0 < length bytes.now → Rose self.old.faults.count self.new.faults.count }
+        ensures quiet { IfOk result (λ n. 0 < n → self.new.faults.count ≡ self.old.faults.count) }
+        ensures never_falls { self.old.faults.count ≤ self.new.faults.count }
+
+        // A failure counts once, and so does a write that takes nothing.
+        ensures once { OnErr result (self.new.faults.count ≡ count_after self.old.faults.count) }
+        ensures once_idle { result ≡ Ok 0 → self.new.faults.count ≡ count_after self.old.faults.count }
+    {
         let written = write_some(&self.out, bytes);
         if !matches!(written, Ok(1..)) {
             self.faults.rise();

@@ -1,5 +1,5 @@
 -- What a sink that never fails was given.
-use Rattle.std.specs.Prelude.{◌&&◌, ℕ, Bool, List, Option, Some, None, take, drop, nat_eq, if◌then◌else◌}
+use Rattle.std.specs.Prelude.{◌&&◌, ◌++◌, ℕ, Bool, List, Option, Some, None, take, drop, nat_eq, if◌then◌else◌}
 use Rattle.std.specs.List.{starts_with}
 use Rattle.outside.specs.declared.expecting.SureSink.{SureSink}
 
@@ -11,6 +11,15 @@ expected_of sink = sink.expected.items
 abbrev pub written_to : SureSink → Option (List ℕ)
 written_to sink = if sink.matches then Some (take sink.count sink.expected.items) else None
 
+-- it never fails
+abbrev pub faults_of : SureSink → ℕ
+faults_of sink = 0
+
 -- whether the piece is what is expected next
 abbrev pub is_next : SureSink → List ℕ → Bool
 is_next sink piece = sink.matches && starts_with nat_eq (drop sink.count sink.expected.items) piece
+
+-- what is told after a piece: what was told before and then the piece, as long as that is a front of what is expected
+abbrev pub told_after : List ℕ → Option (List ℕ) → List ℕ → Option (List ℕ)
+told_after expected None piece = None
+told_after expected (Some before) piece = if starts_with nat_eq expected (before ++ piece) then Some (before ++ piece) else None

@@ -46,14 +46,32 @@ impl SureSink {
 }
 
 impl Sink for SureSink {
-    ghost use Rattle.std.specs.Prelude.{ℕ};
-    ghost use Rattle.outside.specs.SureSink.{written_to};
+    ghost use Rattle.std.specs.Prelude.{◌≡◌, ◌<◌, ◌≤◌, [], IfOk, OnErr, length, take};
+    ghost use Rattle.outside.specs.Cause.{Rose};
+    ghost use Rattle.outside.specs.Written.{Appends};
+    ghost use Rattle.outside.specs.SureSink.{expected_of, faults_of, told_after, written_to};
+    ghost use Rattle.std.proofs.Common.{lit<};
 
     ghost written = { written_to };
 
-    ghost faults = { λ _. 0 };
+    ghost faults = { faults_of };
 
-    fn write(&mut self, bytes: &[u8]) -> Result<usize, SinkFailed> {
+    ghost bounded = { λ _. lit< tt };
+
+    fn write(&mut self, bytes: &[u8]) -> Result<usize, SinkFailed>
+        ensures within { IfOk result (λ n. n ≤ length bytes.now) }
+        ensures appends { IfOk result (λ n. Appends (written_to self.old) (written_to self.new) (take n bytes.now)) }
+        ensures nothing { OnErr result (Appends (written_to self.old) (written_to self.new) []) }
+        ensures failed { OnErr result (Rose (faults_of self.old) (faults_of self.new)) }
+        ensures idle { result ≡ Ok 0 → 0 < length bytes.now → Rose (faults_of self.old) (faults_of self.new) }
+        ensures quiet { IfOk result (λ n. 0 < n → faults_of self.new ≡ faults_of self.old) }
+        ensures never_falls { faults_of self.old ≤ faults_of self.new }
+
+        // Each piece is taken whole, and compared with what is expected.
+        ensures whole { result ≡ Ok (length bytes.now) }
+        ensures told { written_to self.new ≡ told_after (expected_of self.old) (written_to self.old) bytes.now }
+        ensures same { expected_of self.new ≡ expected_of self.old }
+    {
         if self.goes_on(bytes) {
             self.count += bytes.len();
         } else {

@@ -10,7 +10,8 @@ use std::alloc::{AllocError, Global};
 
 /// A tree of these roots that never fails. A root that isn't listed is empty; of two with one name the first counts.
 pub fn sure_tree(roots: Vec<Root>) -> SureTree
-    ensures { ⟦<SureTree as Tree>⟧.contents result ≡ Some (files_of roots.items) }
+    ensures contents { ⟦<SureTree as Tree>⟧.contents result ≡ Some (files_of roots.items) }
+    ensures faults { ⟦<SureTree as Tree>⟧.faults result ≡ 0 }
 {
     SureTree::new(roots)
 }
@@ -28,6 +29,7 @@ pub fn memory_tree(roots: Vec<Root>, failing: Vec<u64>) -> MemoryTree
 /// A sink that expects these bytes and never fails. It was given none so far.
 pub fn sure_sink(expected: Vec<u8>) -> SureSink
     ensures written { ⟦<SureSink as Sink>⟧.written result ≡ Some [] }
+    ensures faults { ⟦<SureSink as Sink>⟧.faults result ≡ 0 }
     ensures expected { expected_of result ≡ expected.items }
 {
     SureSink::new(expected)

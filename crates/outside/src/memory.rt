@@ -1,5 +1,5 @@
 //! The forms in memory whose calls fail as planned.
-ghost use Rattle.std.specs.Prelude.{◌≡◌, ◌+◌, ◌-◌, ◌≤◌, ◌++◌, if◌then◌else◌, length, min, vec_capacity};
+ghost use Rattle.std.specs.Prelude.{◌≡◌, ◌+◌, ◌-◌, ◌<◌, ◌≤◌, ◌^◌, ◌++◌, if◌then◌else◌, length, min, vec_capacity};
 ghost use Rattle.outside.specs.Memory.{count_after, is_fault, is_listed, turn_of};
 
 /// Which calls fail, by their numbers from 0, how many were made and how many were faults.
@@ -8,6 +8,7 @@ pub(crate) struct Plan {
     pub failing: Vec<u64>,
     pub calls: u64,
     pub faults: u64,
+    pub ghost bounded: { faults < 2 ^ 64 },
 }
 
 impl Plan {
@@ -32,7 +33,9 @@ impl Plan {
 
     /// Counts a call, and a fault where it is one.
     pub fn count(&mut self, fault: bool)
-        ensures counted { self.new ≡ record { failing = self.old.failing; calls = count_after self.old.calls; faults = if fault then count_after self.old.faults else self.old.faults } }
+        ensures failing { self.new.failing ≡ self.old.failing }
+        ensures calls { self.new.calls ≡ count_after self.old.calls }
+        ensures faults { self.new.faults ≡ (if fault then count_after self.old.faults else self.old.faults) }
         ensures never_falls { self.old.faults ≤ self.new.faults }
     {
         self.calls = self.calls.saturating_add(1);

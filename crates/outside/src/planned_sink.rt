@@ -74,6 +74,8 @@ impl Sink for MemorySink {
 
     ghost faults = { faults_of };
 
+    ghost bounded = { λ sink. sink.plan.bounded };
+
     fn write(&mut self, bytes: &[u8]) -> Result<usize, SinkFailed>
         ensures within { IfOk result (λ n. n ≤ length bytes.now) }
         ensures appends { IfOk result (λ n. Appends (Some (written_to self.old)) (Some (written_to self.new)) (take n bytes.now)) }

@@ -44,6 +44,8 @@ impl Tree for MemoryTree {
 
     ghost ordered = { λ tree. files_of-IsOrdered tree.roots };
 
+    ghost bounded = { λ tree. tree.plan.bounded };
+
     fn list(&mut self, alloc: Global, root: &str) -> Result<Vec<String>, TreeError>
         ensures listed { IfOk result (λ paths. map string_bytes paths.items ≡ paths_of (contents_of self.old root.now)) }
         ensures never_absent { result ≢ Err TreeError.Absent }
@@ -91,8 +93,7 @@ impl Tree for MemoryTree {
         if fails {
             return Err(TreeError::Failed);
         }
-        let files = files_of(self.roots.as_slice(), root);
-        match file_at(files, path) {
+        match file_at(self.roots.as_slice(), root, path) {
             Some(file) => Ok(front(alloc, file.as_slice(), at_most)?),
             None => Err(TreeError::Absent),
         }

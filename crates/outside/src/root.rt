@@ -16,7 +16,8 @@ pub struct Root {
 }
 
 impl Root {
-    ghost use Rattle.std.specs.Prelude.{◌≡◌, ◌↔◌, IsSome, IfSome};
+    ghost use Rattle.std.specs.Prelude.{◌≡◌, ◌↔◌, IsSome, IfSome, option_copied};
+    ghost use Rattle.outside.specs.Contents.{file_at};
 
     /// A root of these files, or nothing where they aren't in the order of their paths or a path repeats.
     pub fn new(name: Text, files: List<(Text, List<u8>)>) -> Option<Root>
@@ -28,6 +29,17 @@ impl Root {
             Some(Root { name, files })
         } else {
             None
+        }
+    }
+
+    /// The bytes at a path, found by halving.
+    pub(crate) fn file_at(&self, path: &str) -> Option<&List<u8>>
+        ensures { option_copied result ≡ file_at self.now.files path.now }
+    {
+        let files = self.files.as_slice();
+        match files.binary_search_by(|file| file.0.as_str().cmp(path)) {
+            Ok(place) => Some(&files[place].1),
+            Err(_) => None,
         }
     }
 }

@@ -1,33 +1,41 @@
 //! Looking things up in roots that live in memory.
-ghost use Rattle.std.specs.Prelude.{◌≡◌, IfOk, IfSome, MatchOption, map, None, Some, string_bytes, option_copied, take};
+ghost use Rattle.std.specs.Prelude.{◌≡◌, [], IfOk, MatchOption, map, string_bytes, option_copied, take};
 ghost use Rattle.outside.specs.Contents.{paths_of, file_at, in_order};
 ghost use Rattle.outside.specs.Roots.{files_of};
 
 use crate::{List, Root, Text};
 use std::alloc::{AllocError, Global};
 
+/// The first root of this name, if one is listed.
+fn root_of<'a>(roots: &'a [Root], name: &str) -> Option<&'a Root>
+    ensures { MatchOption result (files_of roots.now name.now ≡ []) (λ root. files_of roots.now name.now ≡ root.now.files) }
+{
+    for root in roots {
+        if root.name.as_str() == name {
+            return Some(root);
+        }
+    }
+    None
+}
+
 /// The files of a root, none where it isn't listed.
 pub(crate) fn files_of<'a>(roots: &'a [Root], name: &str) -> &'a [(Text, List<u8>)]
     ensures { result.now ≡ files_of roots.now name.now }
 {
-    for root in roots {
-        if root.name.as_str() == name {
-            return root.files.as_slice();
-        }
+    match root_of(roots, name) {
+        Some(root) => root.files.as_slice(),
+        None => &[],
     }
-    &[]
 }
 
-/// The bytes at a path.
-pub(crate) fn file_at<'a>(files: &'a [(Text, List<u8>)], path: &str) -> Option<&'a List<u8>>
-    ensures { option_copied result ≡ file_at files.now path.now }
+/// The bytes at a path of a root.
+pub(crate) fn file_at<'a>(roots: &'a [Root], name: &str, path: &str) -> Option<&'a List<u8>>
+    ensures { option_copied result ≡ file_at (files_of roots.now name.now) path.now }
 {
-    for file in files {
-        if file.0.as_str() == path {
-            return Some(&file.1);
-        }
+    match root_of(roots, name) {
+        Some(root) => root.file_at(path),
+        None => None,
     }
-    None
 }
 
 /// The paths of some files, as texts of their own.

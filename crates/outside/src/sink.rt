@@ -1,4 +1,4 @@
-ghost use Rattle.std.specs.Prelude.{◌≡◌, ◌<◌, ◌≤◌, ℕ, List, Option, [], IfOk, OnErr, length, take};
+ghost use Rattle.std.specs.Prelude.{◌≡◌, ◌<◌, ◌≤◌, ◌^◌, ℕ, List, Option, [], IfOk, OnErr, length, take};
 ghost use Rattle.outside.specs.Cause.{Rose};
 ghost use Rattle.outside.specs.Written.{Appends};
 
@@ -14,7 +14,7 @@ pub trait Sink {
     /// The bytes written so far, where the sink tells them.
     ghost written: { Self → Option (List ℕ) };
 
-    /// How often the sink has failed: a number below 2^64 that never falls.
+    /// How often the sink has failed. The count never falls.
     ghost faults: { Self → ℕ };
 
     /// Takes some bytes from the front of a piece, and says how many.
@@ -26,4 +26,7 @@ pub trait Sink {
         ensures idle { result ≡ Ok 0 → 0 < length bytes.now → Rose (faults self.old) (faults self.new) }
         ensures quiet { IfOk result (λ n. 0 < n → faults self.new ≡ faults self.old) }
         ensures never_falls { faults self.old ≤ faults self.new };
+
+    /// The count is below 2^64.
+    ghost bounded: { (sink : Self) → faults sink < 2 ^ 64 };
 }

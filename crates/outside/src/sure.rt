@@ -25,6 +25,7 @@ impl SureTree {
 
 impl Tree for SureTree {
     ghost use Rattle.std.specs.Prelude.{Some};
+    ghost use Rattle.std.proofs.Common.{lit<};
     ghost use Rattle.outside.specs.Roots.{files_of-IsOrdered};
     ghost use Rattle.outside.specs.SureTree.{contents_of};
 
@@ -33,6 +34,8 @@ impl Tree for SureTree {
     ghost faults = { λ _. 0 };
 
     ghost ordered = { λ tree. files_of-IsOrdered tree.roots };
+
+    ghost bounded = { λ _. lit< tt };
 
     fn list(&mut self, alloc: Global, root: &str) -> Result<Vec<String>, TreeError> {
         Ok(paths_of(alloc, files_of(self.roots.as_slice(), root))?)
@@ -45,8 +48,7 @@ impl Tree for SureTree {
         path: &str,
         at_most: u64,
     ) -> Result<Vec<u8>, TreeError> {
-        let files = files_of(self.roots.as_slice(), root);
-        match file_at(files, path) {
+        match file_at(self.roots.as_slice(), root, path) {
             Some(file) => Ok(front(alloc, file.as_slice(), at_most)?),
             None => Err(TreeError::Absent),
         }

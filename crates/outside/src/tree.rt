@@ -1,4 +1,4 @@
-ghost use Rattle.std.specs.Prelude.{◌≡◌, ◌≢◌, ◌≤◌, ℕ, Option, None, IfSome, IfOk, OnOk, IsErr, map, string_bytes};
+ghost use Rattle.std.specs.Prelude.{◌≡◌, ◌≢◌, ◌<◌, ◌≤◌, ◌^◌, ℕ, Option, None, IfSome, IfOk, OnOk, IsErr, map, string_bytes};
 ghost use Rattle.outside.specs.Cause.{Rose};
 ghost use Rattle.outside.specs.Contents.{Contents, IsOrdered, Lacks, Reads, paths_of};
 
@@ -44,7 +44,7 @@ pub trait Tree {
     /// The files of each root, where the tree tells them.
     ghost contents: { Self → Option Contents };
 
-    /// How often the tree has failed: a number below 2^64 that never falls.
+    /// How often the tree has failed. The count never falls.
     ghost faults: { Self → ℕ };
 
     /// The paths of all files of a root. Where contents are told, they are in order.
@@ -75,4 +75,7 @@ pub trait Tree {
 
     /// Files are told in the order of their paths, and no path repeats.
     ghost ordered: { (tree : Self) → IfSome (contents tree) IsOrdered };
+
+    /// The count is below 2^64.
+    ghost bounded: { (tree : Self) → faults tree < 2 ^ 64 };
 }

@@ -1,6 +1,6 @@
 use Rattle.std.proofs.Common.{◌≡◌, drop}
 use Rattle.outside.specs.Roots.{files_of}
-use Rattle.outside.proofs.roots.files_of.Given as goal
+use Rattle.outside.proofs.roots.root_of.Given as goal
 
 -- the name isn't among the roots so far
 abbrev pub invariant-loop-root : goal.invariant-loop-root
