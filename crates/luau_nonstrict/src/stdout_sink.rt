@@ -35,6 +35,8 @@ impl<P: Print> Sink for StdoutSink<P> {
 
     ghost written = { λ _. None };
 
+    ghost pieces = { λ _. None };
+
     ghost faults = { λ sink. sink.faults.count };
 
     ghost bounded = { λ sink. sink.faults.bounded };

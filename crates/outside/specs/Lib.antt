@@ -7,3 +7,4 @@ pub mod Memory
 pub mod MemoryTree
 pub mod MemorySink
 pub mod SureTree
+pub mod PieceSink

@@ -46,13 +46,15 @@ impl SureSink {
 }
 
 impl Sink for SureSink {
-    ghost use Rattle.std.specs.Prelude.{◌≡◌, ◌<◌, ◌≤◌, [], IfOk, OnErr, length, take};
+    ghost use Rattle.std.specs.Prelude.{◌≡◌, ◌<◌, ◌≤◌, None, [], IfOk, OnErr, length, take};
     ghost use Rattle.outside.specs.Cause.{Rose};
     ghost use Rattle.outside.specs.Written.{Appends};
     ghost use Rattle.outside.specs.SureSink.{expected_of, faults_of, told_after, written_to};
     ghost use Rattle.std.proofs.Common.{lit<};
 
     ghost written = { written_to };
+
+    ghost pieces = { λ _. None };
 
     ghost faults = { faults_of };
 

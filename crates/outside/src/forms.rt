@@ -5,7 +5,7 @@ ghost use Rattle.outside.specs.SureSink.{expected_of};
 ghost use Rattle.outside.specs.MemorySink.{IsFresh};
 ghost use Rattle.outside.specs.MemoryTree.{calls_of, failing_of};
 
-use crate::{MemorySink, MemoryTree, Root, Sink, SureSink, SureTree, Tree};
+use crate::{MemorySink, MemoryTree, PieceSink, Root, Sink, SureSink, SureTree, Tree};
 use std::alloc::{AllocError, Global};
 
 /// A tree of these roots that never fails. A root that isn't listed is empty; of two with one name the first counts.
@@ -49,4 +49,15 @@ pub fn memory_sink(
     ensures { IfOk result (IsFresh room per_call failing.items idle.items) }
 {
     MemorySink::new(alloc, room, per_call, failing, idle)
+}
+
+/// A sink that keeps each piece that it is given, and takes at most `per_call` bytes of one, which is at least 1. It was
+/// given none so far, and fails only for want of memory.
+pub fn piece_sink(alloc: Global, per_call: u64) -> PieceSink
+    requires { 1 ≤ per_call }
+    ensures pieces { ⟦<PieceSink as Sink>⟧.pieces result ≡ Some [] }
+    ensures written { ⟦<PieceSink as Sink>⟧.written result ≡ Some [] }
+    ensures faults { ⟦<PieceSink as Sink>⟧.faults result ≡ 0 }
+{
+    PieceSink::new(alloc, per_call)
 }

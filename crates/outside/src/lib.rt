@@ -5,6 +5,7 @@
 mod containers;
 mod expecting;
 mod forms;
+mod keeping;
 mod memory;
 mod planned_sink;
 mod planned_tree;
@@ -16,7 +17,8 @@ mod tree;
 
 pub use containers::{List, Text};
 pub use expecting::SureSink;
-pub use forms::{memory_sink, memory_tree, sure_sink, sure_tree};
+pub use forms::{memory_sink, memory_tree, piece_sink, sure_sink, sure_tree};
+pub use keeping::PieceSink;
 pub use planned_sink::MemorySink;
 pub use planned_tree::MemoryTree;
 pub use root::Root;

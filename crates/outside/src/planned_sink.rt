@@ -65,12 +65,14 @@ impl MemorySink {
 }
 
 impl Sink for MemorySink {
-    ghost use Rattle.std.specs.Prelude.{◌≡◌, ◌<◌, ◌≤◌, Some, [], IfOk, OnErr, length, take};
+    ghost use Rattle.std.specs.Prelude.{◌≡◌, ◌<◌, ◌≤◌, None, Some, [], IfOk, OnErr, length, take};
     ghost use Rattle.outside.specs.Cause.{Rose};
     ghost use Rattle.outside.specs.Written.{Appends};
     ghost use Rattle.outside.specs.MemorySink.{Answers, faults_of, turn_at, written_to};
 
     ghost written = { λ sink. Some (written_to sink) };
+
+    ghost pieces = { λ _. None };
 
     ghost faults = { faults_of };
 

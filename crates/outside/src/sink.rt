@@ -1,4 +1,4 @@
-ghost use Rattle.std.specs.Prelude.{◌≡◌, ◌<◌, ◌≤◌, ◌^◌, ℕ, List, Option, [], IfOk, OnErr, length, take};
+ghost use Rattle.std.specs.Prelude.{◌≡◌, ◌<◌, ◌≤◌, ◌^◌, ℕ, List, Option, [], ◌∷◌, IfOk, OnErr, length, take};
 ghost use Rattle.outside.specs.Cause.{Rose};
 ghost use Rattle.outside.specs.Written.{Appends};
 
@@ -14,6 +14,9 @@ pub trait Sink {
     /// The bytes written so far, where the sink tells them.
     ghost written: { Self → Option (List ℕ) };
 
+    /// The pieces that it was given so far, from the first on, where the sink tells them.
+    ghost pieces: { Self → Option (List (List ℕ)) };
+
     /// How often the sink has failed. The count never falls.
     ghost faults: { Self → ℕ };
 
@@ -21,6 +24,7 @@ pub trait Sink {
     fn write(&mut self, bytes: &[u8]) -> Result<usize, SinkFailed>
         ensures within { IfOk result (λ n. n ≤ length bytes.now) }
         ensures appends { IfOk result (λ n. Appends (written self.old) (written self.new) (take n bytes.now)) }
+        ensures given { Appends (pieces self.old) (pieces self.new) (bytes.now ∷ []) }
         ensures nothing { OnErr result (Appends (written self.old) (written self.new) []) }
         ensures failed { OnErr result (Rose (faults self.old) (faults self.new)) }
         ensures idle { result ≡ Ok 0 → 0 < length bytes.now → Rose (faults self.old) (faults self.new) }
