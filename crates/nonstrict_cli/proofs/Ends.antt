@@ -1,6 +1,6 @@
 -- How a run ends that writes nothing, and what a checked folder can't end with.
 use Rattle.std.proofs.Common.{◌≡◌, ℕ, List, [], Option, None, Some, IfSome, ap, sym, subst, ◌∙◌, append-nil, refl, inl, inr, Result, Err}
-use Rattle.outside.specs.Contents.{Contents}
+use Rattle.outside.specs.Contents.{Contents, File}
 use Rattle.outside.specs.Written.{Appends}
 use Rattle.nonstrict_cli.specs.declared.status.Limit.{Limit}
 use Rattle.nonstrict_cli.specs.declared.status.Status.{Status}
@@ -50,7 +50,7 @@ ended_output words (Some contents) (stop.TooLarge limit) usage large a = large l
 ended_output words (Some contents) stop.ReadFault usage large a = absurd a
 ended_output words (Some contents) stop.NoMemory usage large a = absurd a
 
-nothing_appended : (w : Option (List ℕ)) → Appends w w []
+pub nothing_appended : (w : Option (List ℕ)) → Appends w w []
 nothing_appended None = tt
 nothing_appended (Some now) = sym (append-nil now)
 
@@ -78,3 +78,9 @@ answer_ends_well written words (Some contents) answer before after TreeRose Sink
 -- an error is the same in another kind of result
 pub err_over : {T U E : Type 0} (a b : E) → ◌≡◌ {A = Result T E} (Err a) (Err b) → ◌≡◌ {A = Result U E} (Err a) (Err b)
 err_over a b e = let same : a ≡ b = cc in ap Err same
+
+-- what holds of every folder holds of the one that the words name, in what is told
+pub of_folder : (P : List File → Type 0) (told : Option Contents) (named : Option (List ℕ)) → ((files : List File) → P files) → IfSome told (λ contents. IfSome named (λ folder. P (contents folder)))
+of_folder P None named all = tt
+of_folder P (Some contents) None all = tt
+of_folder P (Some contents) (Some folder) all = all (contents folder)

@@ -8,3 +8,4 @@ pub mod ReportLines
 pub mod Reported
 pub mod ReportedLines
 pub mod Names
+pub mod Rests

@@ -8,7 +8,7 @@ ghost use Rattle.nonstrict_cli.specs.Reported.{LinesAreReports};
 ghost use Rattle.nonstrict_cli.specs.Output.{output};
 ghost use Rattle.nonstrict_cli.specs.Status.{IsAnswer, IsSilent};
 ghost use Rattle.nonstrict_cli.specs.Run.{EndsWell};
-ghost use Rattle.nonstrict_cli.specs.Written.{AppendsPart};
+ghost use Rattle.nonstrict_cli.specs.Written.{AppendsPart, GivesRests};
 
 use crate::Status;
 use crate::answer::make_answer;
@@ -49,6 +49,9 @@ pub fn nonstrict<T: Tree, S: Sink>(
 
     // A run that breaks off has written a front of the output, and not the whole.
     ensures part { result ≡ Status.WriteFault → IfSome (T.contents tree.old) (λ contents. AppendsPart (S.written sink.old) (S.written sink.new) (output (map string_bytes words.now) contents).bytes) }
+
+    // Each write is given all that is left of the output.
+    ensures rests { IfSome (T.contents tree.old) (λ contents. GivesRests (S.pieces sink.old) (S.pieces sink.new) (output (map string_bytes words.now) contents).bytes) }
 
     ensures same { T.contents tree.new ≡ T.contents tree.old }
 

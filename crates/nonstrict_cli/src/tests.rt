@@ -1,6 +1,6 @@
 //! Runs of the top call over folders in memory.
 use crate::{Limit, Status, nonstrict};
-use outside::{List, MemorySink, Root, Text, memory_sink, memory_tree};
+use outside::{List, MemorySink, Root, Sink, Text, memory_sink, memory_tree, piece_sink};
 use std::alloc::Global;
 use std::test::Fail;
 
@@ -18,12 +18,12 @@ fn root(alloc: Global, files: &[(&str, &[u8])]) -> Result<Root, Fail> {
 }
 
 /// The status of a run with these words, each followed by a semicolon, where these calls of the tree fail.
-fn run(
+fn run<S: Sink>(
     alloc: Global,
     words: &str,
     root: Root,
     failing: &[u64],
-    sink: &mut MemorySink,
+    sink: &mut S,
 ) -> Result<Status, Fail> {
     let mut list = Vec::new(alloc);
     for word in words.split_terminator(';') {
@@ -258,6 +258,24 @@ fn an_output_that_fails_keeps_its_front(rt: HostRuntime) -> Result<(), Fail> {
         assert_eq!(rt; status.code(), 74);
         assert!(rt; *written <= line.len());
         assert_eq!(rt; sink.written(), &line[..*written]);
+    }
+    Ok(())
+}
+
+#[test]
+fn each_write_is_given_all_that_is_left(rt: HostRuntime) -> Result<(), Fail> {
+    let alloc = rt.alloc();
+    let rests = [
+        b"a.luau:1:10: argument 1 of math.abs always fails\n".as_slice(),
+        b"ent 1 of math.abs always fails\n".as_slice(),
+        b"ys fails\n".as_slice(),
+    ];
+    let mut sink = piece_sink(alloc, 20);
+    let files = root(alloc, &[("a.luau", b"math.abs(\"hi\")".as_slice())])?;
+    assert_eq!(rt; run(alloc, "d;", files, &[], &mut sink)?, Status::Reports);
+    assert_eq!(rt; sink.pieces().len(), 3);
+    for (piece, rest) in sink.pieces().iter().zip(rests.iter()) {
+        assert_eq!(rt; piece.as_slice(), *rest);
     }
     Ok(())
 }

@@ -3,7 +3,7 @@ ghost use Rattle.std.specs.Prelude.{◌≡◌};
 ghost use Rattle.std.specs.Bool.{OnFalse, OnTrue};
 ghost use Rattle.outside.specs.Cause.{Rose};
 ghost use Rattle.outside.specs.Written.{Appends};
-ghost use Rattle.nonstrict_cli.specs.Written.{AppendsPart};
+ghost use Rattle.nonstrict_cli.specs.Written.{AppendsPart, GivesRests};
 
 use outside::Sink;
 
@@ -11,6 +11,7 @@ use outside::Sink;
 /// fails, or takes nothing while bytes are left.
 pub(crate) fn write_whole<S: Sink>(sink: &mut S, text: &[u8]) -> bool
     ensures whole { OnTrue result (Appends (S.written sink.old) (S.written sink.new) text.now) }
+    ensures rests { GivesRests (S.pieces sink.old) (S.pieces sink.new) text.now }
     ensures quiet { OnTrue result (S.faults sink.new ≡ S.faults sink.old) }
     ensures part { OnFalse result (AppendsPart (S.written sink.old) (S.written sink.new) text.now) }
     ensures fault { OnFalse result (Rose (S.faults sink.old) (S.faults sink.new)) }

@@ -19,7 +19,7 @@ pub struct PieceSink {
 }
 
 impl PieceSink {
-    ghost use Rattle.std.specs.Prelude.{◌≡◌, ◌++◌, ◌∷◌, Some, [], IfOk, OnOk, length, min, take};
+    ghost use Rattle.std.specs.Prelude.{◌≡◌, ◌++◌, ◌∷◌, Some, [], IfOk, IfSome, OnOk, length, min, take};
     ghost use Rattle.outside.specs.PieceSink.{pieces_of, written_to};
 
     /// A sink that was given nothing so far.
@@ -37,6 +37,13 @@ impl PieceSink {
             whole: true,
             faults: 0,
         }
+    }
+
+    /// The pieces that it was given so far, as long as there was memory for each.
+    pub fn pieces(&self) -> &[List<u8>]
+        ensures { IfSome (pieces_of self.now) (λ pieces. result.now ≡ pieces) }
+    {
+        self.pieces.as_slice()
     }
 
     /// Keeps a piece and takes a front of it. Says how many bytes that has.
