@@ -14,6 +14,7 @@ pub mod LongestLemmas
 pub mod LongestTokenLemmas
 pub mod MeaningLemmas
 pub mod NameLemmas
+pub mod NumeralLemmas
 pub mod OrderLemmas
 pub mod PlaceLemmas
 pub mod ReadingLemmas
