@@ -13,6 +13,7 @@ pub mod LongLemmas
 pub mod LongestLemmas
 pub mod LongestTokenLemmas
 pub mod MeaningLemmas
+pub mod NumeralLemmas
 pub mod OrderLemmas
 pub mod PlaceLemmas
 pub mod ReadingLemmas

@@ -139,7 +139,7 @@ word_longest bytes more is =
     subst (λ l. length l ≤ numeral_len (l ++ more)) (sym is.3) (word_bound is.0 is.1 is.2 more is.5 is.6 is.7)
 
 -- the word that is read looks like a numeral
-all_of_len : (p : ℕ → Bool) (xs : List ℕ) → prefix_len p xs ≡ length xs → list_all p xs ≡ true
+pub all_of_len : (p : ℕ → Bool) (xs : List ℕ) → prefix_len p xs ≡ length xs → list_all p xs ≡ true
 all_of_len p xs whole = ap (list_all p) (sym (ap (λ n. take n xs) whole ∙ take-length xs)) ∙ run_all p xs
 
 read_mark_at : (a b : ℕ) (t s : Bool) → is_exponent_letter a ≡ t → is_exponent_sign b ≡ s → (text : List ℕ) → text ≡ a ∷ b ∷ drop 2 text → IsExponentMark (take (cond t (cond s 2 1) 0) text)
@@ -266,7 +266,7 @@ decimal_word word begins is =
     let all = all_both is_numeral_byte (take p word) f.0 (all_further is_digit_or_underscore is_numeral_byte (take p word) digit_in_numeral (run_all is_digit_or_underscore word)) f.2 in
     (digits, x.0, x.1, whole, begins, all, x.3, x.4)
 
-choose_is : {C : Type 0} (t : Bool) (x y : Bool) → cond t x y ≡ true → (t ≡ true → x ≡ true → C) → (t ≡ false → y ≡ true → C) → C
+pub choose_is : {C : Type 0} (t : Bool) (x y : Bool) → cond t x y ≡ true → (t ≡ true → x ≡ true → C) → (t ≡ false → y ≡ true → C) → C
 choose_is true x y h f g = f refl h
 choose_is false x y h f g = g refl h
 

@@ -14,3 +14,4 @@ pub mod Spellings
 pub mod Braces
 pub mod LongestTokens
 pub mod Faults
+pub mod NumeralForms

@@ -6,6 +6,8 @@ ghost use Rattle.luau_lex.specs.declared.token.Kind.TheVariants.{Quoted, Long, W
 ghost use Rattle.luau_lex.specs.declared.token.LexError.{LexError};
 ghost use Rattle.luau_lex.specs.Bytes.{line_feed, carriage_return, is_blank, is_name_start, is_name_byte};
 ghost use Rattle.luau_lex.specs.Brackets.{closes, closing_place};
+ghost use Rattle.luau_lex.specs.Numerals.{begins_numeral, is_numeral};
+ghost use Rattle.luau_lex.specs.NumeralForms.{IsNumeral};
 ghost use Rattle.luau_lex.specs.Signs.{sign_len, is_sign};
 ghost use Rattle.luau_lex.specs.Strings.{digit_number, number_in, utf8_scheme};
 ghost use Rattle.luau_lex.specs.Spellings.{Spelling, written, AreSpellings, stand_for};
@@ -71,6 +73,12 @@ pub fn laws_determine_tokens()
 pub fn faults_stand_where_they_are_told()
     ensures { (text : List ℕ) (e : LexError) → HasTokens text (Err e) →
         (ts : List Tok) × StopsAt [] (first_line_len text) (drop (first_line_len text) text) ts e }
+{}
+
+/// A word is a numeral exactly where it is of the form of one.
+pub fn numerals_are_of_their_forms()
+    ensures only { (word : List ℕ) → begins_numeral word ≡ true → is_numeral word ≡ true → IsNumeral word }
+    ensures all { (word : List ℕ) → IsNumeral word → (begins_numeral word ≡ true) × (is_numeral word ≡ true) }
 {}
 
 /// A name goes as far as it can.

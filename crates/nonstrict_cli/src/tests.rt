@@ -267,7 +267,7 @@ fn each_write_is_given_all_that_is_left(rt: HostRuntime) -> Result<(), Fail> {
     let alloc = rt.alloc();
     let rests = [
         b"a.luau:1:10: argument 1 of math.abs always fails\n".as_slice(),
-        b"ent 1 of math.abs always fails\n".as_slice(),
+        b"t 1 of math.abs always fails\n".as_slice(),
         b"ys fails\n".as_slice(),
     ];
     let mut sink = piece_sink(alloc, 20);
