@@ -23,8 +23,7 @@ use std::{env, io};
 use stdout_sink::StdoutSink;
 
 fn main(rt: HostRuntime) -> ExitCode {
-    let status = run(&rt);
-    end(&rt, status)
+    end(&rt, run(&rt))
 }
 
 /// Runs the command that the program's words are.
