@@ -1,12 +1,11 @@
 -- Reading calls one after the other.
-use Rattle.std.proofs.Common.{not, ◌≡◌, ◌<◌, ◌++◌, ℕ, Bool, List, [], ◌∷◌, Option, None, Some, length, drop, map, refl, arith, ap, sym, ◌∙◌, append_assoc, option_map}
+use Rattle.std.proofs.Common.{◌≡◌, ◌<◌, ◌++◌, ℕ, Bool, List, [], ◌∷◌, Option, None, Some, length, drop, map, refl, arith, ap, sym, ◌∙◌, append_assoc, option_map}
 use Rattle.std.specs.Option.{option_and_then}
 use Rattle.luau_lex.specs.declared.token.Token.{Token}
 use Rattle.luau_lex.specs.Tokens.{Tok, seen_token}
 use Rattle.nonstrict_cli.specs.declared.form.Call as code
-use Rattle.rules_certain.specs.Literal.{Literal, is_number}
 use Rattle.rules_certain.specs.Calls.{Written}
-use Rattle.nonstrict_cli.specs.Form.{Call, call_in, calls_in, faults_in, offset_of, offsets_at, offsets_of, written_as}
+use Rattle.nonstrict_cli.specs.Form.{call_in, calls_in, faults_in, offset_of, offsets_at, offsets_of}
 use Rattle.nonstrict_cli.specs.Seen.{call_then, seen_call}
 
 -- two parts before are one

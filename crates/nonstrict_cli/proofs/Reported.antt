@@ -1,17 +1,16 @@
 -- Where the reports of a module stand in its text.
-use Rattle.std.proofs.Common.{◌≡◌, ◌==◌, ◌≤◌, ℕ, suc, Bool, true, false, not, if◌then◌else◌, List, [], ◌∷◌, ◌++◌, Option, Some, None, map, option_map, refl, ap, sym, ◌∙◌, arith, cond}
+use Rattle.std.proofs.Common.{◌≡◌, ◌==◌, ◌≤◌, ℕ, suc, Bool, true, false, not, if◌then◌else◌, List, [], ◌∷◌, ◌++◌, Option, Some, map, option_map, refl, ap, ◌∙◌, arith, cond}
 use Rattle.std.proofs.lemmas.Bool.Decides.{nat_tests}
 use Rattle.std.specs.List.{find}
 use Rattle.std.proofs.lemmas.Bool.{ne_eqb}
 use Rattle.luau_tree.specs.declared.names.Place.{Place}
-use Rattle.luau_tree.specs.declared.names.Place.TheVariants.{Expr as ExprPlace}
 use Rattle.luau_tree.specs.declared.position.Span.{Span}
-use Rattle.luau_tree.specs.Tree.{Block, more_stats, Expr, the_expr, Call, Index, NameExpr, more_exprs, no_exprs}
+use Rattle.luau_tree.specs.Tree.{Block, more_stats, Expr}
 use Rattle.luau_run.specs.CodePieces.{of_block}
-use Rattle.rules_certain.specs.Literal.{Literal, NilLiteral, TruthLiteral, NumberLiteral, StrLiteral, is_number, kind_of}
+use Rattle.rules_certain.specs.Literal.{Literal, NilLiteral, TruthLiteral, NumberLiteral, StrLiteral, is_number}
 use Rattle.rules_certain.specs.Calls.{Written, stat_of, block_of, after_call}
 use Rattle.rules_certain.specs.Reports.{place, argument_of, reports_in}
-use Rattle.nonstrict_cli.specs.Form.{offsets_of, offset_of, offsets_at}
+use Rattle.nonstrict_cli.specs.Form.{offsets_of, offsets_at}
 use Rattle.nonstrict_cli.specs.Reported.{expr_start, exprs_in, number_of, span_of, span_at}
 
 -- a call with another literal

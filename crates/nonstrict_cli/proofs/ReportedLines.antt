@@ -1,5 +1,5 @@
 -- The lines of a folder that say what fails are those of the reports of its checked modules.
-use Rattle.std.proofs.Common.{◌≡◌, ◌≤◌, ◌-◌, ℕ, suc, Bool, true, false, not, if◌then◌else◌, List, [], ◌∷◌, ◌++◌, Option, Some, None, map, filter, flat_map, option_map, refl, ap, sym, ◌∙◌, arith, slice_get}
+use Rattle.std.proofs.Common.{◌≡◌, ◌≤◌, ◌-◌, ℕ, suc, Bool, true, false, if◌then◌else◌, List, [], ◌∷◌, ◌++◌, Option, Some, None, map, flat_map, option_map, refl, ap, sym, ◌∙◌, arith, slice_get}
 use Rattle.std.specs.Option.{option_and_then}
 use Rattle.std.proofs.lemmas.List.{map-append}
 use Rattle.luau_tree.specs.declared.names.Place.{Place}
@@ -9,7 +9,7 @@ use Rattle.rules_certain.specs.Literal.{is_number}
 use Rattle.rules_certain.specs.Calls.{Written, block_of, after_call}
 use Rattle.rules_certain.specs.Reports.{argument_of, reports_in, reports_from, reports_of}
 use Rattle.nonstrict_cli.specs.Certainty.{Checked, calls_unless, checked_as, checked_at, checked_modules}
-use Rattle.nonstrict_cli.specs.Folder.{argument_line, lines_of_file, lines_by_module, module_paths, refusal_of, source, text_behind_mark}
+use Rattle.nonstrict_cli.specs.Folder.{argument_line, lines_of_file, module_paths, refusal_of, source, text_behind_mark}
 use Rattle.nonstrict_cli.specs.Form.{offsets_of}
 use Rattle.nonstrict_cli.specs.Reported.{expr_start, line_of_report, failures_in, LinesAreReports}
 use Rattle.nonstrict_cli.proofs.Reported.{starts_of_reports}

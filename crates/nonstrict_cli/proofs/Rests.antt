@@ -1,6 +1,5 @@
 -- The pieces that a text is given in, each all that is left of it.
-use Rattle.std.proofs.Common.{◌≡◌, ◌<◌, ◌+◌, ◌++◌, ℕ, List, [], ◌∷◌, Option, None, Some, IfSome, IsSomeAnd, drop, refl, ap, sym, ◌∙◌, append_assoc, append-nil, subst, arith}
-use Rattle.std.specs.Bool.{⊤}
+use Rattle.std.proofs.Common.{◌≡◌, ◌<◌, ◌++◌, ℕ, List, [], ◌∷◌, Option, None, Some, IfSome, IsSomeAnd, drop, refl, ap, sym, ◌∙◌, append_assoc, append-nil, subst, arith}
 use Rattle.outside.specs.Contents.{Contents}
 use Rattle.outside.specs.Written.{Appends}
 use Rattle.nonstrict_cli.specs.declared.answer.Answer.{Answer}
