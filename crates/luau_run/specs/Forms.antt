@@ -1,10 +1,10 @@
 -- Worked runs of small modules: closures, fields, requires, failures, annotations and libraries.
 use Rattle.std.specs.Prelude.{ℕ, if◌then◌else◌, ◌==◌, List, [], ◌∷◌, Some, None, codes}
 use Rattle.luau_tree.specs.declared.names.BinOp.TheVariants.{Concat, Add}
-use Rattle.luau_tree.specs.Tree.{StatKind, Compound, While, NumFor, LocalFunction, Break, Expr, no_expr, ExprKind, NilExpr, TrueExpr, StrExpr, FunctionExpr, Index, At, Binary, Field, no_binds}
+use Rattle.luau_tree.specs.Tree.{StatKind, Compound, While, NumFor, GenFor, LocalFunction, Break, no_stats, Expr, no_expr, ExprKind, NilExpr, TrueExpr, StrExpr, FunctionExpr, Index, At, Binary, Field, no_binds}
 use Rattle.luau_run.specs.Program.{UseLocal, UseBuiltin, UseLibrary, UseGlobal, ReadModule, Program}
 use Rattle.luau_run.specs.Examples.{number_type}
-use Rattle.luau_run.specs.Pieces.{e, num, str, name, library, call_of, table, declared, alone, block_of, body_of, locals, assign, calling, returning, module_of, over, one_module}
+use Rattle.luau_run.specs.Pieces.{e, num, str, name, library, exprs_of, call_of, table, declared, alone, block_of, body_of, locals, assign, calling, returning, module_of, over, one_module}
 
 -- `local x = 1`, `local function set(a) x = a end`, `set("s")`, `return x`
 abbrev pub assigned_by_closure : Program
@@ -58,25 +58,33 @@ frozen_then kind = one_module
     (locals (alone 0) (e 0 (call_of (e 1 (Index (library 2 (codes "table")) (codes "freeze"))) (e 3 (table []) ∷ [])) ∷ []) ∷ kind ∷ [])
     ((1, UseBuiltin (codes "table.freeze")) ∷ (2, UseLibrary) ∷ (10, UseLocal 0) ∷ []) []
 
--- `local t = nil` and a statement, which may use t as its expression 10
-abbrev pub nil_then : StatKind → Program
-nil_then kind = one_module (locals (alone 0) (e 0 NilExpr ∷ []) ∷ kind ∷ []) ((10, UseLocal 0) ∷ []) []
+-- `local t = VALUE` and a statement, which may use t as its expression 10
+abbrev pub local_then : ExprKind → StatKind → Program
+local_then v kind = one_module (locals (alone 0) (e 0 v ∷ []) ∷ kind ∷ []) ((10, UseLocal 0) ∷ []) []
+
+-- `t.x`
+abbrev pub field_of_t : Expr
+field_of_t = e 9 (Index (name 10) (codes "x"))
 
 -- `t[1]`
 abbrev pub element_of_t : Expr
 element_of_t = e 9 (At (name 10) (e 11 num))
 
--- modules that fail for certain, and so ask for nothing: `math()`; with a frozen table `t.x = 1`, `t[1] = 1`;
--- with nil `t[1] = 1`, `local x = t[1]`, `local x = t .. "s"`, `t[1] += 1`
+-- `for x in t do end`
+abbrev pub over_t : StatKind
+over_t = GenFor (alone 1) (exprs_of (name 10 ∷ [])) no_stats
+
+-- statements that fail for certain where t is a frozen table, nil, a string or a number, and so ask for nothing
 abbrev pub failing : List Program
 failing =
     one_module (calling 0 (library 1 (codes "math")) [] ∷ []) ((1, UseLibrary) ∷ []) []
-    ∷ frozen_then (assign (e 9 (Index (name 10) (codes "x"))) (e 12 num))
-    ∷ frozen_then (assign element_of_t (e 12 num))
-    ∷ nil_then (assign element_of_t (e 12 num))
-    ∷ nil_then (locals (alone 1) (element_of_t ∷ []))
-    ∷ nil_then (locals (alone 1) (e 9 (Binary Concat (name 10) (e 12 str)) ∷ []))
-    ∷ nil_then (Compound element_of_t Add (e 12 num)) ∷ []
+    ∷ frozen_then (assign field_of_t (e 12 num)) ∷ frozen_then (assign element_of_t (e 12 num))
+    ∷ local_then NilExpr (assign element_of_t (e 12 num)) ∷ local_then NilExpr (locals (alone 1) (element_of_t ∷ []))
+    ∷ local_then NilExpr (locals (alone 1) (e 9 (Binary Concat (name 10) (e 12 str)) ∷ []))
+    ∷ local_then NilExpr (Compound element_of_t Add (e 12 num)) ∷ local_then NilExpr (Compound (name 10) Add (e 12 num))
+    ∷ local_then NilExpr over_t
+    ∷ local_then str (assign field_of_t (e 12 num)) ∷ local_then str (assign element_of_t (e 12 num)) ∷ local_then str (calling 9 (name 10) [])
+    ∷ local_then num (locals (alone 1) (field_of_t ∷ [])) ∷ local_then num over_t ∷ []
 
 -- `local function f(x) end`, `f(V)`, where the annotation of `x` says that it is a number
 abbrev pub annotated_call : ExprKind → Program

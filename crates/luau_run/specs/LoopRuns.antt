@@ -1,7 +1,7 @@
 -- Worked runs of loops.
-use Rattle.std.specs.Prelude.{[], ◌∷◌}
+use Rattle.std.specs.Prelude.{[], ◌∷◌, codes}
 use Rattle.luau_tree.specs.Tree.{While, Repeat, If, NumFor, GenFor, LocalFunction, Break, Continue, no_arms, more_arms, no_stats, a_block, no_expr, an_expr, ExprKind, NilExpr, TrueExpr, FalseExpr, no_binds}
-use Rattle.luau_run.specs.Program.{UseLocal, Program}
+use Rattle.luau_run.specs.Program.{UseLocal, UseBuiltin, Program}
 use Rattle.luau_run.specs.Pieces.{e, num, str, name, call_of, table, exprs_of, declared, alone, both, block_of, body_of, locals, assign, if_then, returning, one_module}
 
 -- `repeat local y = 1 until y`
@@ -44,6 +44,12 @@ over_function = one_module
     ∷ GenFor (both 4 5) (exprs_of (name 4 ∷ e 5 FalseExpr ∷ [])) (block_of (assign (name 6) (name 7) ∷ []))
     ∷ returning (name 8 ∷ []) ∷ [])
     ((0, UseLocal 3) ∷ (3, UseLocal 2) ∷ (4, UseLocal 1) ∷ (6, UseLocal 0) ∷ (7, UseLocal 5) ∷ (8, UseLocal 0) ∷ []) []
+
+-- `for x in pcall do return x end`
+abbrev pub over_builtin : Program
+over_builtin = one_module
+    (GenFor (alone 0) (exprs_of (name 0 ∷ [])) (block_of (returning (name 1 ∷ []) ∷ [])) ∷ [])
+    ((0, UseBuiltin (codes "pcall")) ∷ (1, UseLocal 0) ∷ []) []
 
 -- `local x`, `for i = 1, 1 do local j = i local function get() return j end if x then else x = get end end`, `return x()`
 abbrev pub fresh_cells : Program

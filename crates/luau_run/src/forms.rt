@@ -35,7 +35,7 @@ pub fn failure_that_is_caught()
 
 /// What fails for certain asks for no answer.
 pub fn modules_that_fail()
-    ensures { map (λ program. ends program 50 []) failing ≡ Failure ∷ Failure ∷ Failure ∷ Failure ∷ Failure ∷ Failure ∷ Failure ∷ [] }
+    ensures { map (λ program. ends program 50 []) failing ≡ map (λ program. Failure) failing }
 {}
 
 /// A parameter's place is reached, after the call's arguments and before the body, where the argument is in its annotation.

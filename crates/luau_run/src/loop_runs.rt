@@ -4,11 +4,11 @@
 ghost use Rattle.std.specs.Prelude.{◌≡◌, [], ◌∷◌, Some, None, false, true, codes};
 ghost use Rattle.luau_values.specs.Value.{Truth, Num, Str};
 ghost use Rattle.luau_tree.specs.Tree.{NilExpr, TrueExpr};
-ghost use Rattle.luau_run.specs.Machine.{Says, Fail, Turn, Stop, Leave};
+ghost use Rattle.luau_run.specs.Machine.{Says, Fail, Turn, Stop, Done, Leave};
 ghost use Rattle.luau_run.specs.Examples.{Normal, Return, Failure, Unfinished, reached};
 ghost use Rattle.luau_run.specs.Run.{trace};
 ghost use Rattle.luau_run.specs.Pieces.{num, str, gives, ends, one_more};
-ghost use Rattle.luau_run.specs.LoopRuns.{repeated, continued, repeat_broken_off, no_turn, two_turns, over_table, over_function, fresh_cells, counting_from, counting_by};
+ghost use Rattle.luau_run.specs.LoopRuns.{repeated, continued, repeat_broken_off, no_turn, two_turns, over_table, over_function, over_builtin, fresh_cells, counting_from, counting_by};
 
 /// What loops do.
 pub fn loops_that_turn()
@@ -20,6 +20,8 @@ pub fn loops_that_turn()
     ensures while_ends { ends no_turn 50 [] ≡ Normal }
     ensures table { gives over_table 50 (Turn (Num (codes "1") ∷ Str (codes "s") ∷ []) ∷ Stop ∷ []) ≡ Some (Str (codes "s") ∷ []) }
     ensures function { gives over_function 50 [] ≡ Some (Truth false ∷ []) }
+    ensures builtin { gives over_builtin 50 (Done (Str (codes "s") ∷ []) ∷ []) ≡ Some (Str (codes "s") ∷ []) }
+    ensures builtin_ends { ends over_builtin 50 (Done [] ∷ []) ≡ Normal }
     ensures cells { gives fresh_cells 50 (Turn (Num (codes "1") ∷ []) ∷ Turn (Num (codes "2") ∷ []) ∷ Stop ∷ []) ≡ Some (Num (codes "1") ∷ []) }
 {}
 

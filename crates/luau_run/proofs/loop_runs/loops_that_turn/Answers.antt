@@ -18,5 +18,7 @@ returns c = record {
   while_ends = refl;
   table = refl;
   function = refl;
+  builtin = refl;
+  builtin_ends = refl;
   cells = refl;
 }
