@@ -54,7 +54,7 @@ the_fourth b c d e w x y z later p q r s = cc
 here : (first : ℕ) (w : Written) (calls : List Written) → expr_start (block_of first (w ∷ calls)) (argument_of first) ≡ Some w.argument.start
 here first w calls = ap (option_map (λ (s : Span). s.start)) (span_in_call n first w w.literal (block_of (after_call first) calls)
     ∙ the_fourth (first == n) (suc first == n) (suc (suc first) == n) (n == n) w.call w.callee w.library w.argument (span_at (block_of (after_call first) calls) n)
-        (differ first n (λ e. absurd (omega (arith, e)))) (differ (suc first) n (λ e. absurd (omega (arith, e)))) (differ (suc (suc first)) n (λ e. absurd (omega (arith, e)))) (same n))
+    (differ first n (λ e. absurd (omega (arith, e)))) (differ (suc first) n (λ e. absurd (omega (arith, e)))) (differ (suc (suc first)) n (λ e. absurd (omega (arith, e)))) (same n))
   where
     n : ℕ
     n = suc (suc (suc first))
@@ -63,7 +63,7 @@ here first w calls = ap (option_map (λ (s : Span). s.start)) (span_in_call n fi
 behind : (first id : ℕ) (w : Written) (calls : List Written) → after_call first ≤ id → expr_start (block_of first (w ∷ calls)) (place id) ≡ expr_start (block_of (after_call first) calls) (place id)
 behind first id w calls l = ap (option_map (λ (s : Span). s.start)) (span_in_call id first w w.literal (block_of (after_call first) calls)
     ∙ none_of (first == id) (suc first == id) (suc (suc first) == id) (suc (suc (suc first)) == id) w.call w.callee w.library w.argument (span_at (block_of (after_call first) calls) id)
-        (differ first id (λ e. absurd (omega (arith, e, l)))) (differ (suc first) id (λ e. absurd (omega (arith, e, l)))) (differ (suc (suc first)) id (λ e. absurd (omega (arith, e, l)))) (differ (suc (suc (suc first))) id (λ e. absurd (omega (arith, e, l)))))
+    (differ first id (λ e. absurd (omega (arith, e, l)))) (differ (suc first) id (λ e. absurd (omega (arith, e, l)))) (differ (suc (suc first)) id (λ e. absurd (omega (arith, e, l)))) (differ (suc (suc (suc first))) id (λ e. absurd (omega (arith, e, l)))))
 
 -- where the reports of a list of calls begin, by the tree of a list that has one more in front
 starts_behind : (at first n : ℕ) (w : Written) (calls later : List Written) → after_call first ≤ n
@@ -73,7 +73,7 @@ starts_behind at first n w calls (v ∷ later) l = by_test (is_number v.literal)
   where
     by_test : (b : Bool) → map (λ (r : ℕ × Place). expr_start (block_of first (w ∷ calls)) r.1) (reports_in at (after_call n) later) ≡ map (λ (r : ℕ × Place). expr_start (block_of (after_call first) calls) r.1) (reports_in at (after_call n) later)
         → map (λ (r : ℕ × Place). expr_start (block_of first (w ∷ calls)) r.1) (if b then reports_in at (after_call n) later else (at, argument_of n) ∷ reports_in at (after_call n) later)
-            ≡ map (λ (r : ℕ × Place). expr_start (block_of (after_call first) calls) r.1) (if b then reports_in at (after_call n) later else (at, argument_of n) ∷ reports_in at (after_call n) later)
+        ≡ map (λ (r : ℕ × Place). expr_start (block_of (after_call first) calls) r.1) (if b then reports_in at (after_call n) later else (at, argument_of n) ∷ reports_in at (after_call n) later)
     by_test true e = e
     by_test false e = ap (λ x. x ∷ map (λ (r : ℕ × Place). expr_start (block_of first (w ∷ calls)) r.1) (reports_in at (after_call n) later)) (behind first (suc (suc (suc n))) w calls (omega (arith, l)))
         ∙ ap (λ xs. expr_start (block_of (after_call first) calls) (argument_of n) ∷ xs) e
@@ -85,7 +85,7 @@ starts_of_reports at first (w ∷ calls) = by_test (is_number w.literal) (starts
   where
     by_test : (b : Bool) → map (λ (r : ℕ × Place). expr_start (block_of first (w ∷ calls)) r.1) (reports_in at (after_call first) calls) ≡ map Some (offsets_of calls)
         → map (λ (r : ℕ × Place). expr_start (block_of first (w ∷ calls)) r.1) (if b then reports_in at (after_call first) calls else (at, argument_of first) ∷ reports_in at (after_call first) calls)
-            ≡ map Some (offsets_at w.argument.start (not b) ++ offsets_of calls)
+        ≡ map Some (offsets_at w.argument.start (not b) ++ offsets_of calls)
     by_test true e = e
     by_test false e = ap (λ x. x ∷ map (λ (r : ℕ × Place). expr_start (block_of first (w ∷ calls)) r.1) (reports_in at (after_call first) calls)) (here first w calls)
         ∙ ap (λ xs. Some w.argument.start ∷ xs) e

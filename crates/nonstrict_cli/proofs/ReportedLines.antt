@@ -33,7 +33,7 @@ in_first at n m modules (w ∷ calls) = by_test (is_number w.literal) (in_first 
   where
     by_test : (b : Bool) → map (line_from at (m ∷ modules)) (reports_in at (after_call n) calls) ≡ map (λ (r : ℕ × Place). line_of_report m r.1) (reports_in at (after_call n) calls)
         → map (line_from at (m ∷ modules)) (if b then reports_in at (after_call n) calls else (at, argument_of n) ∷ reports_in at (after_call n) calls)
-            ≡ map (λ (r : ℕ × Place). line_of_report m r.1) (if b then reports_in at (after_call n) calls else (at, argument_of n) ∷ reports_in at (after_call n) calls)
+        ≡ map (λ (r : ℕ × Place). line_of_report m r.1) (if b then reports_in at (after_call n) calls else (at, argument_of n) ∷ reports_in at (after_call n) calls)
     by_test true e = e
     by_test false e = ap (λ k. option_and_then (λ c. line_of_report c (argument_of n)) (slice_get (m ∷ modules) k) ∷ map (line_from at (m ∷ modules)) (reports_in at (after_call n) calls)) (nothing_left at)
         ∙ ap (λ xs. line_of_report m (argument_of n) ∷ xs) e
@@ -53,7 +53,7 @@ behind_first at k n m modules (w ∷ calls) l = by_test (is_number w.literal) (b
   where
     by_test : (b : Bool) → map (line_from at (m ∷ modules)) (reports_in k (after_call n) calls) ≡ map (line_from (suc at) modules) (reports_in k (after_call n) calls)
         → map (line_from at (m ∷ modules)) (if b then reports_in k (after_call n) calls else (k, argument_of n) ∷ reports_in k (after_call n) calls)
-            ≡ map (line_from (suc at) modules) (if b then reports_in k (after_call n) calls else (k, argument_of n) ∷ reports_in k (after_call n) calls)
+        ≡ map (line_from (suc at) modules) (if b then reports_in k (after_call n) calls else (k, argument_of n) ∷ reports_in k (after_call n) calls)
     by_test true e = e
     by_test false e = ap (λ x. x ∷ map (line_from at (m ∷ modules)) (reports_in k (after_call n) calls)) (past_first at m modules k (argument_of n) l)
         ∙ ap (λ xs. line_from (suc at) modules (k, argument_of n) ∷ xs) e
@@ -91,15 +91,15 @@ checked_first at m modules lines e =
     ap (map Some) (all_fail m.path m.text (offsets_of m.calls) lines)
     ∙ map-append Some (map (argument_line m.path m.text) (offsets_of m.calls)) (failures_in lines)
     ∙ ap (λ xs. xs ++ map Some (failures_in lines)) (lines_at_starts m.path m.text (offsets_of m.calls)
-        ∙ ap (map (option_map (argument_line m.path m.text))) (sym (starts_of_reports at 0 m.calls))
-        ∙ lines_of_places m here ∙ sym (in_first at 0 m modules m.calls))
+    ∙ ap (map (option_map (argument_line m.path m.text))) (sym (starts_of_reports at 0 m.calls))
+    ∙ lines_of_places m here ∙ sym (in_first at 0 m modules m.calls))
     ∙ ap (λ ys. map (line_from at (m ∷ modules)) here ++ ys) (e ∙ sym (behind_all at (suc at) m modules (map (λ c. c.calls) modules) (omega arith)))
     ∙ sym (map-append (line_from at (m ∷ modules)) here later)
 
 -- module by module
 by_path : (files : List File) (at : ℕ) (paths : List (List ℕ))
     → map Some (failures_in (flat_map (λ path. lines_of_file (module_paths files) path (source files path)) paths))
-        ≡ map (line_from at (flat_map (checked_at files) paths)) (reports_from at (map (λ c. c.calls) (flat_map (checked_at files) paths)))
+    ≡ map (line_from at (flat_map (checked_at files) paths)) (reports_from at (map (λ c. c.calls) (flat_map (checked_at files) paths)))
 by_path files at [] = refl
 by_path files at (path ∷ paths) = by_calls (λ k. by_path files k paths) (calls_unless (refusal_of (module_paths files) path bytes) bytes) refl
   where

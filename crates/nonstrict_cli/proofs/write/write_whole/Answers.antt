@@ -36,7 +36,7 @@ returns-in_default-clause-rests g c =
     let done = c.loop-done.done in
     let whole : take (length text - done) (drop done text) ≡ drop done text = take_all (length text - done) (drop done text) (omega (arith, length-drop done text)) in
     last_given (g.S.Sink.pieces c.args.sink.now) (g.S.Sink.pieces c.loop-done.sink) (g.S.Sink.pieces c.write.new.self) text (drop done text) c.loop-done.invariant.3
-        (subst (λ (rest : List ℕ). Appends (g.S.Sink.pieces c.loop-done.sink) (g.S.Sink.pieces c.write.new.self) (rest ∷ [])) whole c.in_default.ensures.given)
+    (subst (λ (rest : List ℕ). Appends (g.S.Sink.pieces c.loop-done.sink) (g.S.Sink.pieces c.write.new.self) (rest ∷ [])) whole c.in_default.ensures.given)
 
 pub returns-then-count-eq0-clause-rests : goal.returns-then-count-eq0-clause-rests
 returns-then-count-eq0-clause-rests g c =
@@ -44,7 +44,7 @@ returns-then-count-eq0-clause-rests g c =
     let done = c.loop-done.done in
     let whole : take (length text - done) (drop done text) ≡ drop done text = take_all (length text - done) (drop done text) (omega (arith, length-drop done text)) in
     last_given (g.S.Sink.pieces c.args.sink.now) (g.S.Sink.pieces c.loop-done.sink) (g.S.Sink.pieces c.write.new.self) text (drop done text) c.loop-done.invariant.3
-        (subst (λ (rest : List ℕ). Appends (g.S.Sink.pieces c.loop-done.sink) (g.S.Sink.pieces c.write.new.self) (rest ∷ [])) whole c.in-Ok.ensures.given)
+    (subst (λ (rest : List ℕ). Appends (g.S.Sink.pieces c.loop-done.sink) (g.S.Sink.pieces c.write.new.self) (rest ∷ [])) whole c.in-Ok.ensures.given)
 
 pub returns-clause-rests : goal.returns-clause-rests
 returns-clause-rests g c = gives_rests (g.S.Sink.pieces c.args.sink.now) (g.S.Sink.pieces c.loop-done.sink) c.args.text.now (drop c.loop-done.done c.args.text.now) c.loop-done.invariant.3
