@@ -1,0 +1,10 @@
+pub mod Members
+pub mod Free
+pub mod Rows
+pub mod Holds
+pub mod Operations
+pub mod Kinds
+pub mod HeapFree
+pub mod Cut
+pub mod Field
+pub mod Examples

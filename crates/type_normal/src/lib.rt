@@ -1,0 +1,4 @@
+//! Types in normal form, and what they mean.
+#![tactic(auto)]
+
+pub mod examples;
