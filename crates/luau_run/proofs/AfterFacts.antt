@@ -1,6 +1,6 @@
 -- Facts on states that follow one another.
 use Rattle.std.proofs.Common.{◌≢◌, ℕ, ◌<◌, ◌≤◌, List, [], ◌∷◌, ◌++◌, Option, Some, None, inl, inr, sym, ◌∙◌, ap, arith, append_assoc, append-nil}
-use Rattle.luau_values.proofs.HeapFacts.{later_refl, later_trans}
+use Rattle.luau_values.proofs.Public.{later_refl, later_trans}
 use Rattle.luau_run.specs.Machine.{Event, Reach, Leave, State}
 use Rattle.luau_run.specs.After.{activation_of, NoneOf, LeavesLast, IsInside, AllInside, HasBegun, After}
 

@@ -3,7 +3,7 @@ use Rattle.std.proofs.Common.{◌≡◌, ℕ, zero, suc, ◌+◌, ◌<◌, ◌�
 use Rattle.luau_values.specs.Value.{Value}
 use Rattle.luau_values.specs.Later.{Later}
 use Rattle.luau_values.specs.Heap.{is_frozen, with_field}
-use Rattle.luau_values.proofs.HeapFacts.{later_refl, write_later}
+use Rattle.luau_values.proofs.Public.{later_refl, write_later}
 use Rattle.luau_tree.specs.declared.names.Place.{Place}
 use Rattle.luau_run.specs.Machine.{Event, Reach, Answer, Store, State, Ran, Gave, Failed, Spent, Part, go_on, ◌>>=◌, give, fail, spend, step_of, step, log, look, change, Reply, Unfit, Fails, Fits, replied, asked, ask, caught, catch, write_field}
 use Rattle.luau_run.specs.Run.{end_of}

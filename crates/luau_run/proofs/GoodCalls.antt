@@ -2,7 +2,7 @@
 use Rattle.std.proofs.Common.{ℕ, suc, pred, ◌+◌, List, [], ◌∷◌, Option, Some, None, refl, slice_get, codes, drop}
 use Rattle.std.specs.Str.{bytes_eq}
 use Rattle.luau_values.specs.Value.{Value, Nil, Truth, Num, Str, Tab, Lit, Builtin, Other}
-use Rattle.luau_values.proofs.HeapFacts.{later_refl}
+use Rattle.luau_values.proofs.Public.{later_refl}
 use Rattle.luau_tree.specs.Tree.{Block, no_stats, more_stats, Body, the_body, the_bind, Binds, no_binds, more_binds}
 use Rattle.luau_run.specs.Program.{Signature, declaration, ReadModule, Program}
 use Rattle.luau_run.specs.Machine.{Act, Write, Freeze, Make, Calls, Catches, Closure, Part}

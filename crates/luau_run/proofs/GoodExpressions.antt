@@ -2,7 +2,7 @@
 use Rattle.std.proofs.Common.{◌≡◌, ℕ, zero, suc, pred, Bool, not, List, [], ◌∷◌, Option, Some, None, refl, arith}
 use Rattle.luau_values.specs.Value.{Value, Nil, Truth, Num, Str, Tab, Lit, Builtin, Other}
 use Rattle.luau_values.specs.Heap.{Field, written}
-use Rattle.luau_values.proofs.HeapFacts.{later_refl}
+use Rattle.luau_values.proofs.Public.{later_refl}
 use Rattle.luau_tree.specs.Tree.{Expr, the_expr, Exprs, no_exprs, more_exprs, ExprKind, NilExpr, TrueExpr, FalseExpr, NumberExpr, StrExpr, Vararg, FunctionExpr, NameExpr, Index, At, Call, Method, Paren, Unary, Binary, IfElse, TableExpr, Interp, Assert, Choices, no_choices, more_choices, Item, Keyed, Plain, Items, no_items, more_items, Body}
 use Rattle.luau_tree.specs.Tree as plain
 use Rattle.luau_tree.specs.declared.names.BinOp.{BinOp}

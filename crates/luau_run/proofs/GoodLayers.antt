@@ -1,7 +1,7 @@
 -- Each layer beside a deeper one, and runs beside runs with more steps and answers.
 use Rattle.std.proofs.Common.{◌≡◌, ℕ, zero, suc, ◌+◌, ◌<◌, List, [], ◌++◌, length, Some, None, sym, ◌∙◌, ap, subst, arith, slice_get, length-append, suc-add, append-nil}
 use Rattle.luau_values.specs.Later.{Later}
-use Rattle.luau_values.specs.Heap.{start_heap}
+use Rattle.luau_values.specs.Start.{start_heap}
 use Rattle.luau_values.specs.Value.{Value}
 use Rattle.luau_tree.specs.Tree.{Expr, Stat}
 use Rattle.luau_run.specs.Program.{Program, paths}

@@ -2,7 +2,7 @@
 use Rattle.std.proofs.Common.{ℕ, Bool, List, Option, refl}
 use Rattle.luau_values.specs.Value.{Value, Nil, Truth, Num, Str, Tab, Lit, Builtin, Other, is_nil}
 use Rattle.luau_values.specs.Heap.{Field}
-use Rattle.luau_values.proofs.HeapFacts.{later_refl, table_later, freeze_later}
+use Rattle.luau_values.proofs.Public.{later_refl, table_later, freeze_later}
 use Rattle.luau_tree.specs.declared.names.UnOp.{UnOp}
 use Rattle.luau_tree.specs.declared.names.UnOp.TheVariants.{Minus, Not, Length}
 use Rattle.luau_tree.specs.declared.names.BinOp.{BinOp}

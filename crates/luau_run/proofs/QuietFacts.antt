@@ -1,11 +1,12 @@
 -- A call of a quiet builtin only adds tables.
 use Rattle.std.proofs.Common.{◌≡◌, ◌≢◌, ℕ, zero, suc, ◌≤◌, Bool, true, false, not, ◌&&◌, if◌then◌else◌, List, [], ◌∷◌, length, Option, Some, None, refl, sym, subst, codes}
 use Rattle.std.specs.Str.{bytes_eq}
+use Rattle.std.proofs.lemmas.Slice.Eq.{bytes_eq-Decides}
 use Rattle.std.proofs.lemmas.Bool.{leb-true}
 use Rattle.luau_values.specs.Value.{Value, Nil, Truth, Num, Str, Tab, Lit, Builtin, Other}
 use Rattle.luau_values.specs.Heap.{Heap, is_frozen}
 use Rattle.luau_values.specs.Later.{Extends}
-use Rattle.luau_values.proofs.HeapFacts.{extends_refl, extends_table, extends_changed, other_name}
+use Rattle.luau_values.proofs.Public.{extends_refl, extends_table, extends_fill}
 use Rattle.luau_run.specs.Program.{Program, Signature, declaration, takes, may_give}
 use Rattle.luau_run.specs.Machine.{Act, Write, Freeze, Make, Calls, Catches, Answer, One, Says, Fail, Turn, Stop, Does, Done, State, Ran, Gave, Failed, Spent, Part, Reply, Unfit, Fails, Fits, replied, asked, go_on, ◌>>=◌, give, fail, spend, look, change, ask, write_field}
 use Rattle.luau_run.specs.Answers.{Quiet, ForResults, Move, Acts, Ends, fits_if, is_open, may_write, is_there, all_there, act_fits, a_move, other_kind}
@@ -52,7 +53,7 @@ never false e = cc
 module _ (program : Program) (h : Heap) (l : Layer) (later : (s : State) → Extends h s.store.heap → Kept h (l.acts (Quiet (length h)) ForResults s)) where
   kept_write : (table : ℕ) (name : List ℕ) (value : Value) (s : State) → Extends h s.store.heap → length h ≤ table → Kept h (write_field table name value s)
   unfolding write_field
-  kept_write table name value s e le = kept_unless h (is_frozen s.store.heap table) s _ e (extends_changed _ h _ table e le)
+  kept_write table name value s e le = kept_unless h (is_frozen s.store.heap table) s _ e (extends_fill h s.store.heap table name value e le)
 
   fitted : (b : Bool) (move : Move) (s t : State) → Extends h s.store.heap → (b ≡ true → Kept h (acts_from l (Quiet (length h)) ForResults move t))
       → Kept h (go_on (replied (fits_if b move) s t) (acts_from l (Quiet (length h)) ForResults))
@@ -116,11 +117,14 @@ kept_free program depth signature s q =
     rw q (kept_on s.store.heap ((layer_of program depth).acts (Quiet (length s.store.heap)) ForResults s) (λ results. given_by signature (results_or_none results))
     (kept_acts program depth s.store.heap s (extends_refl s.store.heap)) (λ results t k. kept_given s.store.heap signature (results_or_none results) t k))
 
+unequal : (a b : List ℕ) → a ≢ b → bytes_eq a b ≡ false
+unequal a b ne = elim (bytes_eq a b) as (λ t. bytes_eq a b ≡ t → t ≡ false) [ true ↦ λ e. absurd (ne ((bytes_eq-Decides a b).0 e)) | false ↦ λ e. refl ] refl
+
 kept_meaning : (program : Program) (depth : ℕ) (signature : Signature) (path : List ℕ) (args : List Value) (s : State) → signature.quiet ≡ true
     → path ≢ codes "table.freeze" → Kept s.store.heap (meaning (layer_of program depth) signature path args s)
 unfolding ◌>>=◌
 kept_meaning program depth signature path args s q ne =
-    rw (other_name path (codes "table.freeze") ne) (kept_if s.store.heap (bytes_eq path (codes "type"))
+    rw (unequal path (codes "table.freeze") ne) (kept_if s.store.heap (bytes_eq path (codes "type"))
     (type_name (first args) >>= (λ v. given_by signature (v ∷ []))) (free_builtin (layer_of program depth) signature) s
     (kept_on s.store.heap (type_name (first args) s) (λ v. given_by signature (v ∷ []))
     (kept_type s.store.heap (first args) s (extends_refl s.store.heap)) (λ v t k. kept_given s.store.heap signature (v ∷ []) t k))

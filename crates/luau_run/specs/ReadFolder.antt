@@ -3,7 +3,7 @@ use Rattle.std.specs.Prelude.{◌≡◌, ◌<◌, ⊤, ℕ, zero, suc, Bool, tru
 use Rattle.std.specs.Option.{option_map_or}
 use Rattle.std.specs.List.{AllByRecursion, list_any, filter_map}
 use Rattle.std.specs.Str.{bytes_eq}
-use Rattle.luau_values.specs.Heap.{library_of}
+use Rattle.luau_values.specs.Start.{library_of}
 use Rattle.luau_tree.specs.Tree.{the_expr, ExprKind, NameExpr, Index, Body, the_body, the_bind}
 use Rattle.luau_run.specs.Program.{declaration, Use, UseLocal, UseBuiltin, UseLibrary, UseGlobal, ReadModule, Program, paths}
 use Rattle.luau_run.specs.CodePieces.{Piece, AnExpr, ABody, ABind, of_block, inside}

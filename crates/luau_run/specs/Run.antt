@@ -1,6 +1,6 @@
 -- Runs: layers, one upon another, and the run of a module of a program.
 use Rattle.std.specs.Prelude.{ℕ, zero, suc, ◌+◌, List, [], length, slice_get}
-use Rattle.luau_values.specs.Heap.{start_heap}
+use Rattle.luau_values.specs.Start.{start_heap}
 use Rattle.luau_run.specs.Program.{Program, paths}
 use Rattle.luau_run.specs.Machine.{Event, Answer, State, Ran, Gave, Failed, Spent, spend}
 use Rattle.luau_run.specs.Layer.{Ending, Layer}

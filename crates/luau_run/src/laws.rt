@@ -2,7 +2,7 @@
 
 ghost use Rattle.std.specs.Prelude.{◌≡◌, ◌≢◌, ℕ, suc, ◌+◌, ◌<◌, List, ◌∷◌, ◌++◌, length, Some, None, IsTrue, IsFalse, slice_get, codes};
 ghost use Rattle.luau_values.specs.Value.{Value, Builtin};
-ghost use Rattle.luau_values.specs.Heap.{start_heap};
+ghost use Rattle.luau_values.specs.Start.{start_heap};
 ghost use Rattle.luau_values.specs.Later.{Later, Extends};
 ghost use Rattle.luau_tree.specs.Tree.{Expr, Stat};
 ghost use Rattle.luau_run.specs.Program.{Program, Signature, declaration, takes, paths};

@@ -1,5 +1,5 @@
 -- Facts on heaps, by induction on their tables.
-use Rattle.std.proofs.Common.{◌≡◌, ◌≢◌, ℕ, zero, suc, ◌<◌, ◌≤◌, Bool, true, false, not, List, [], ◌∷◌, length, slice_get, IsTrue, IsFalse, Option, Some, refl, sym, ◌∙◌, ap, arith, true≢false}
+use Rattle.std.proofs.Common.{◌≡◌, ◌≢◌, ℕ, zero, suc, ◌<◌, ◌≤◌, Bool, true, false, not, List, [], ◌∷◌, length, slice_get, IsTrue, IsFalse, Option, Some, refl, sym, ◌∙◌, ap, subst, arith, true≢false}
 use Rattle.std.specs.Option.{option_map_or}
 use Rattle.std.specs.List.{All, AllPairs}
 use Rattle.std.specs.Str.{bytes_eq}
@@ -69,11 +69,14 @@ extends_table [] g fields e = tt
 extends_table (t ∷ h) [] fields e = absurd e
 extends_table (t ∷ h) (u ∷ g) fields e = (e.0, extends_table h g fields e.1)
 
-pub extends_changed : (f : Table → Table) (h g : Heap) (a : ℕ) → Extends h g → length h ≤ a → Extends h (changed f a g)
+extends_changed : (f : Table → Table) (h g : Heap) (a : ℕ) → Extends h g → length h ≤ a → Extends h (changed f a g)
 extends_changed f [] g a e l = tt
 extends_changed f (t ∷ h) [] a e l = absurd e
 extends_changed f (t ∷ h) (u ∷ g) zero e l = absurd (omega arith)
 extends_changed f (t ∷ h) (u ∷ g) (suc a) e l = (e.0, extends_changed f h g a e.1 (omega arith))
+
+pub extends_fill : (h g : Heap) (a : ℕ) (name : List ℕ) (value : Value) → Extends h g → length h ≤ a → Extends h (with_field a name value g)
+extends_fill h g a name value e l = extends_changed _ h g a e l
 
 pub same_name : (a b : List ℕ) → a ≡ b → bytes_eq a b ≡ true
 same_name a b = (bytes_eq-Decides a b).1
@@ -128,10 +131,19 @@ write_reads [] a name value l = absurd (omega arith)
 write_reads (t ∷ h) zero name value l = written_same name value t.fields (is_nil value) refl
 write_reads (t ∷ h) (suc a) name value l = write_reads h a name value (omega arith)
 
-pub write_leaves : (h : Heap) (a : ℕ) (name other : List ℕ) (value : Value) → name ≢ other → field_of (with_field a name value h) a other ≡ field_of h a other
-write_leaves [] a name other value ne = refl
-write_leaves (t ∷ h) zero name other value ne = written_other name other value t.fields (is_nil value) ne refl
-write_leaves (t ∷ h) (suc a) name other value ne = write_leaves h a name other value ne
+pub write_leaves : (h : Heap) (a b : ℕ) (name other : List ℕ) (value : Value) → name ≢ other → field_of (with_field a name value h) b other ≡ field_of h b other
+write_leaves [] a b name other value ne = refl
+write_leaves (t ∷ h) zero zero name other value ne = written_other name other value t.fields (is_nil value) ne refl
+write_leaves (t ∷ h) zero (suc b) name other value ne = refl
+write_leaves (t ∷ h) (suc a) zero name other value ne = refl
+write_leaves (t ∷ h) (suc a) (suc b) name other value ne = write_leaves h a b name other value ne
+
+pub write_marks : (h : Heap) (a b : ℕ) (name : List ℕ) (value : Value) → is_frozen (with_field a name value h) b ≡ is_frozen h b
+write_marks [] a b name value = refl
+write_marks (t ∷ h) zero zero name value = refl
+write_marks (t ∷ h) zero (suc b) name value = refl
+write_marks (t ∷ h) (suc a) zero name value = refl
+write_marks (t ∷ h) (suc a) (suc b) name value = write_marks h a b name value
 
 elsewhere : (f : Table → Table) (h : Heap) (a b : ℕ) → a ≢ b → slice_get (changed f a h) b ≡ slice_get h b
 elsewhere f [] a b ne = refl
@@ -142,6 +154,43 @@ elsewhere f (t ∷ h) (suc a) (suc b) ne = elsewhere f h a b (λ e. ne (ap suc e
 
 pub write_elsewhere : (h : Heap) (a b : ℕ) (name : List ℕ) (value : Value) → a ≢ b → slice_get (with_field a name value h) b ≡ slice_get h b
 write_elsewhere h a b name value ne = elsewhere _ h a b ne
+
+-- a frozen table is another than one that isn't, so a write to that one leaves it
+pub write_spares : (h : Heap) (a b : ℕ) (name other : List ℕ) (value : Value) → IsFalse (is_frozen h a) → IsTrue (is_frozen h b)
+    → field_of (with_field a name value h) b other ≡ field_of h b other
+write_spares h a b name other value loose shut =
+    ap (λ (o : Option Table). option_map_or (λ t. value_of other t.fields) o Nil)
+    (write_elsewhere h a b name value (λ e. true≢false (sym shut ∙ ap (is_frozen h) (sym e) ∙ loose)))
+
+pub frozen_marks : (h g : Heap) (a : ℕ) → Later h g → IsTrue (is_frozen h a) → IsTrue (is_frozen g a)
+frozen_marks h g a l f = ap (λ (o : Option Table). option_map_or (λ t. t.frozen) o false) (stays h g a l f) ∙ f
+
+pub frozen_fields : (h g : Heap) (a : ℕ) (name : List ℕ) → Later h g → IsTrue (is_frozen h a) → field_of g a name ≡ field_of h a name
+frozen_fields h g a name l f = ap (λ (o : Option Table). option_map_or (λ t. value_of name t.fields) o Nil) (stays h g a l f)
+
+-- what a field reads as after a write is the written value or what it read as before
+pub written_reads : (P : Value → Type 0) (name other : List ℕ) (value : Value) (fields : List Field) → P value → P (value_of other fields)
+    → P (value_of other (written name value fields))
+written_reads P name other value fields new old =
+    elim (bytes_eq name other) as (λ b. bytes_eq name other ≡ b → P (value_of other (written name value fields))) [
+      | true ↦ λ e. subst P (sym (ap (λ n. value_of n (written name value fields)) (sym ((bytes_eq-Decides name other).0 e)) ∙ written_same name value fields (is_nil value) refl)) new
+      | false ↦ λ e. subst P (sym (written_other name other value fields (is_nil value) (λ same. true≢false (sym (same_name name other same) ∙ e)) refl)) old
+    ] refl
+
+pub change_adds_none : (f : Table → Table) (a : ℕ) (h : Heap) → length (changed f a h) ≡ length h
+change_adds_none f a [] = refl
+change_adds_none f zero (t ∷ h) = refl
+change_adds_none f (suc a) (t ∷ h) = ap suc (change_adds_none f a h)
+
+pub write_adds_none : (h : Heap) (a : ℕ) (name : List ℕ) (value : Value) → length (with_field a name value h) ≡ length h
+write_adds_none h a name value = change_adds_none _ a h
+
+pub freeze_adds_none : (h : Heap) (a : ℕ) → length (with_frozen a h) ≡ length h
+freeze_adds_none h a = change_adds_none _ a h
+
+pub table_adds_one : (h : Heap) (fields : List Field) → length (with_table fields h) ≡ suc (length h)
+table_adds_one [] fields = refl
+table_adds_one (t ∷ h) fields = ap suc (table_adds_one h fields)
 
 pub new_table : (h : Heap) (fields : List Field) → slice_get (with_table fields h) (length h) ≡ Some (record { frozen = false; fields = fields })
 new_table [] fields = refl

@@ -1,2 +1,6 @@
-pub mod HeapFacts
-pub mod StartFacts
+mod HeapFacts
+mod StartFacts
+mod OrderFacts
+mod GrowsFacts
+mod StandsFacts
+pub mod Public

@@ -6,7 +6,8 @@ use Rattle.std.proofs.Math.Seq.{drop-append_seam}
 use Rattle.std.proofs.lemmas.Slice.Eq.{bytes_eq-Decides, starts_is}
 use Rattle.std.proofs.lemmas.Bool.Decides.{Decides-eqb}
 use Rattle.luau_values.specs.Value.{Value, Nil, Builtin}
-use Rattle.luau_values.specs.Heap.{Field, Table, value_of, is_frozen, field_of, after_prefix, library_fields, libraries, start_heap}
+use Rattle.luau_values.specs.Heap.{Field, Table, value_of, is_frozen, field_of}
+use Rattle.luau_values.specs.Start.{after_prefix, library_fields, libraries, start_heap}
 use Rattle.luau_values.proofs.HeapFacts.{same_name, other_name}
 
 all_frozen : (fields : List ℕ → List Field) (libs : List (List ℕ)) (a : ℕ) → a < length libs
@@ -72,6 +73,9 @@ fields_declared l name [] = refl
 fields_declared l name (path ∷ paths) =
     one_more l name path paths (after_prefix (l ++ 46 ∷ []) path) (bytes_eq (l ++ 46 ∷ name) path) refl refl (fields_declared l name paths)
 
+pub start_length : (paths : List (List ℕ)) → length (start_heap paths) ≡ length (libraries paths)
+start_length paths = map_length (λ k. record { frozen = true; fields = library_fields k paths }) (libraries paths)
+
 pub start_frozen : (paths : List (List ℕ)) (a : ℕ) → a < length (start_heap paths) → is_frozen (start_heap paths) a ≡ true
 start_frozen paths a l =
     all_frozen (λ k. library_fields k paths) (libraries paths) a (subst (λ (n : ℕ). a < n) (map_length (λ k. record { frozen = true; fields = library_fields k paths }) (libraries paths)) l)
@@ -79,3 +83,18 @@ start_frozen paths a l =
 pub start_fields : (paths : List (List ℕ)) (a : ℕ) (l name : List ℕ) → slice_get (libraries paths) a ≡ Some l
     → field_of (start_heap paths) a name ≡ (if list_any (bytes_eq (l ++ 46 ∷ name)) paths then Builtin (l ++ 46 ∷ name) else Nil)
 start_fields paths a l name e = table_of (λ k. library_fields k paths) (libraries paths) a l name e ∙ fields_declared l name paths
+
+-- whatever a library's field reads as at the start is a builtin or nil
+value_declared : (P : Value → Type 0) (l name : List ℕ) (paths : List (List ℕ)) → P Nil → ((path : List ℕ) → P (Builtin path)) → P (value_of name (library_fields l paths))
+value_declared P l name paths none some =
+    subst P (sym (fields_declared l name paths))
+    (elim (list_any (bytes_eq (l ++ 46 ∷ name)) paths) as (λ b. P (if b then Builtin (l ++ 46 ∷ name) else Nil)) [ true ↦ some (l ++ 46 ∷ name) | false ↦ none ])
+
+reads_of : (P : Value → Type 0) (fields : List ℕ → List Field) (libs : List (List ℕ)) (a : ℕ) (name : List ℕ) → P Nil → ((l : List ℕ) → P (value_of name (fields l)))
+    → P (field_of (map (λ l. record { frozen = true; fields = fields l }) libs) a name)
+reads_of P fields [] a name none some = none
+reads_of P fields (l ∷ libs) zero name none some = some l
+reads_of P fields (l ∷ libs) (suc a) name none some = reads_of P fields libs a name none some
+
+pub start_reads : (P : Value → Type 0) (paths : List (List ℕ)) (a : ℕ) (name : List ℕ) → P Nil → ((path : List ℕ) → P (Builtin path)) → P (field_of (start_heap paths) a name)
+start_reads P paths a name none some = reads_of P (λ l. library_fields l paths) (libraries paths) a name none (λ l. value_declared P l name paths none some)

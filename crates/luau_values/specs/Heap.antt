@@ -1,10 +1,10 @@
 -- Heaps: the tables of a run, each with a mark that says whether it is frozen, and with named fields.
 -- What stands under keys that are no strings is in no heap.
-use Rattle.std.specs.Prelude.{◌≢◌, ℕ, zero, suc, Bool, true, false, not, if◌then◌else◌, ◌==◌, List, [], ◌∷◌, ◌++◌, map, length, drop, Option, Some, None, slice_get, IsFalse}
-use Rattle.std.specs.Option.{option_map, option_map_or}
-use Rattle.std.specs.List.{All, AllPairs, filter, filter_map, starts_with}
+use Rattle.std.specs.Prelude.{◌≢◌, ℕ, zero, suc, Bool, true, false, not, if◌then◌else◌, List, [], ◌∷◌, ◌++◌, slice_get, IsFalse}
+use Rattle.std.specs.Option.{option_map_or}
+use Rattle.std.specs.List.{All, AllPairs, filter}
 use Rattle.std.specs.Str.{bytes_eq}
-use Rattle.luau_values.specs.Value.{Value, Nil, Builtin, is_nil}
+use Rattle.luau_values.specs.Value.{Value, Nil, is_nil}
 
 -- a field of a table
 pub record Field : Type 0 where
@@ -63,28 +63,3 @@ with_field address name value heap = changed (λ t. record t { fields = written 
 -- the heap after a table is frozen
 abbrev pub with_frozen : ℕ → Heap → Heap
 with_frozen address heap = changed (λ t. record t { frozen = true }) address heap
-
--- what follows a prefix
-abbrev pub after_prefix : List ℕ → List ℕ → Option (List ℕ)
-after_prefix prefix text = if starts_with ◌==◌ text prefix then Some (drop (length prefix) text) else None
-
--- the library of a builtin whose path has a dot
-abbrev pub library_of : List ℕ → Option (List ℕ)
-library_of [] = None
-library_of (c ∷ path) = if c == 46 then Some [] else option_map (λ library. c ∷ library) (library_of path)
-
--- the libraries of some paths, each once, in the order in which paths of theirs come first; so a library's number is by
--- the first declaration in it
-abbrev pub libraries : List (List ℕ) → List (List ℕ)
-libraries [] = []
-libraries (path ∷ paths) =
-    option_map_or (λ library. library ∷ filter (λ l. not (bytes_eq l library)) (libraries paths)) (library_of path) (libraries paths)
-
--- the fields of a library: the builtins among some paths that stand in it, one for each path
-abbrev pub library_fields : List ℕ → List (List ℕ) → List Field
-library_fields library paths =
-    filter_map (λ path. option_map (λ name. record { name = name; value = Builtin path }) (after_prefix (library ++ 46 ∷ []) path)) paths
-
--- the heap at the start of a run over builtins with these paths: a frozen table for each library, and nothing else
-abbrev pub start_heap : List (List ℕ) → Heap
-start_heap paths = map (λ library. record { frozen = true; fields = library_fields library paths }) (libraries paths)

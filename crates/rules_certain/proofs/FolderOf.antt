@@ -5,7 +5,7 @@ use Rattle.std.specs.List.{AllByRecursion, list_any, filter_map, find}
 use Rattle.std.specs.Str.{bytes_eq}
 use Rattle.std.proofs.lemmas.Bool.{ne_eqb}
 use Rattle.std.proofs.lemmas.Slice.Eq.{bytes_eq-Decides}
-use Rattle.luau_values.specs.Heap.{library_of}
+use Rattle.luau_values.specs.Start.{library_of}
 use Rattle.luau_tree.specs.Tree.{the_expr, no_exprs, more_exprs, ExprKind, Call, Index, NameExpr}
 use Rattle.luau_run.specs.Program.{Signature, Declared, declaration, Use, UseBuiltin, ReadModule, Program}
 use Rattle.luau_run.specs.CodePieces.{Piece, of_block, of_expr_kind}
