@@ -1,0 +1,3 @@
+pub mod MembersFacts
+pub mod OrderFacts
+pub mod HoldsFacts
