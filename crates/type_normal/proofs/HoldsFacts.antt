@@ -3,15 +3,15 @@ use Rattle.std.proofs.Common.{◌≡◌, ℕ, Bool, true, false, not, List, [], 
 use Rattle.std.specs.Prelude.{◌||◌, ◌&&◌, if◌then◌else◌}
 use Rattle.std.specs.declared.cmp.Ordering.{Ordering}
 use Rattle.std.specs.declared.cmp.Ordering.TheVariants.{Less, Equal, Greater}
-use Rattle.type_arena.specs.Term.{Members, only, all_but, Function, builtin, literal, Free, Term, term, Rows, no_rows, more_rows, Fields, no_fields, more_fields}
+use Rattle.type_arena.specs.Term.{Members, only, all_but, builtin, literal, Free, Term, term, Rows, no_rows, more_rows, Fields, no_fields, more_fields}
 use Rattle.luau_values.specs.Value.{Value, Nil, Truth, Num, Str, Tab, Lit, Builtin, Other}
 use Rattle.luau_values.specs.Heap.{Heap, is_frozen, field_of}
 use Rattle.type_normal.specs.Members.{by_order, is_member, is_no_set, is_whole_set}
-use Rattle.type_normal.specs.Free.{name_cmp, function_cmp, belongs, either_free, both_free, outside_free, is_no_free, is_whole_free, all_values}
-use Rattle.type_normal.specs.Rows.{row_cmp, put_row, put_rows, rows_in_order, any_table, is_empty, is_unknown, has_empty, known_fields, put_normal}
+use Rattle.type_normal.specs.Free.{name_cmp, function_cmp, belongs, either_free, both_free, outside_free, is_no_free, is_whole_free}
+use Rattle.type_normal.specs.Rows.{row_cmp, put_row, put_rows, rows_in_order, is_empty, is_unknown, has_empty, known_fields, put_normal}
 use Rattle.type_normal.specs.Holds.{holds, holds_rows, holds_fields}
-use Rattle.type_normal.specs.Operations.{union, put_field, meet_each, meet, meet_rows, meet_fields, other_tables, not_free, is_flat, with_tables, fail}
-use Rattle.type_normal.proofs.MembersFacts.{or_assoc, or_comm, or_false, and_true, and_false, and_comm, not_not, or_middle, or_twice, member-either, member-both, member-outside}
+use Rattle.type_normal.specs.Operations.{union, put_field, meet_each, meet, meet_rows, meet_fields, not_free, is_flat, fail}
+use Rattle.type_normal.proofs.MembersFacts.{or_assoc, or_false, and_false, or_middle, or_twice, member-either, member-both, member-outside}
 use Rattle.type_normal.proofs.OrderFacts.{name_ties, row_frozen_ties, row_fields_tie, names_total, functions_total}
 
 -- both sides of what is true
@@ -262,7 +262,7 @@ put_field_by : (h : Heap) (a : ℕ) (p q : List ℕ) (t u : Term) (w : Term → 
     → ((x : Term) → holds h (field_of h a p) (w x) ≡ holds h (field_of h a p) t && holds h (field_of h a p) x)
     → holds_fields h a (put_field p t w gs) ≡ holds h (field_of h a p) t && holds_fields h a gs
     → holds_fields h a (by_order o (more_fields p t (more_fields q u gs)) (more_fields q (w u) gs) (more_fields q u (put_field p t w gs)))
-      ≡ holds h (field_of h a p) t && (holds h (field_of h a q) u && holds_fields h a gs)
+    ≡ holds h (field_of h a p) t && (holds h (field_of h a q) u && holds_fields h a gs)
 put_field_by h a p q t u w gs Less e met ih = refl
 put_field_by h a p q t u w gs Equal e met ih =
     let pq : q ≡ p = sym (name_ties p q e) in
@@ -333,7 +333,7 @@ mutual
       meet_each_holds h a b fs (meet_fields fs) s (meet_rows r s) (λ gs. meet_fields_hold h a fs gs)
       ∙ rw (meet_rows_hold h a r s) (or_and (in_row h a b fs) (holds_rows h a r) (holds_rows h a s))
 
-  meet_fields_hold : (h : Heap) (a : ℕ) (fs gs : Fields) → holds_fields h a (meet_fields fs gs) ≡ holds_fields h a fs && holds_fields h a gs
+  pub meet_fields_hold : (h : Heap) (a : ℕ) (fs gs : Fields) → holds_fields h a (meet_fields fs gs) ≡ holds_fields h a fs && holds_fields h a gs
   meet_fields_hold h a no_fields gs = refl
   meet_fields_hold h a (more_fields p t fs) gs =
       put_field_holds h a p t (meet t) (meet_fields fs gs) (λ x. meet_holds h (field_of h a p) t x)

@@ -1,12 +1,12 @@
 -- The orders of names, functions and types: what counts as one is one.
-use Rattle.std.proofs.Common.{◌≡◌, ℕ, Bool, true, false, List, [], ◌∷◌, refl, sym, ap, ◌∙◌}
+use Rattle.std.proofs.Common.{◌≡◌, ℕ, Bool, true, false, [], ◌∷◌, refl, ap}
 use Rattle.std.specs.declared.cmp.Ordering.{Ordering}
 use Rattle.std.specs.declared.cmp.Ordering.TheVariants.{Less, Equal, Greater}
-use Rattle.std.specs.Ordering.{nat_cmp, bool_cmp, ordering_then, ordering_reverse, then_cmp, on, MatchOrdering}
+use Rattle.std.specs.Ordering.{nat_cmp, bool_cmp, ordering_then, ordering_reverse, then_cmp, on}
 use Rattle.std.specs.Cmp.{IsTotalOrder}
 use Rattle.std.specs.Cmp.Lexicographic.{slice_cmp}
 use Rattle.std.proofs.lemmas.Cmp.{ranked, nat_cmp_total, nat_list_cmp_total, then_total, on_total}
-use Rattle.type_arena.specs.Term.{Members, only, all_but, Function, builtin, literal, Free, Term, term, Rows, no_rows, more_rows, Fields, no_fields, more_fields}
+use Rattle.type_arena.specs.Term.{only, all_but, Function, builtin, literal, Term, term, Rows, no_rows, more_rows, Fields, no_fields, more_fields}
 use Rattle.type_normal.specs.Members.{members_cmp}
 use Rattle.type_normal.specs.Free.{name_cmp, function_cmp, free_cmp}
 use Rattle.type_normal.specs.Rows.{names_cmp, term_cmp, rows_cmp, types_cmp, row_cmp}
