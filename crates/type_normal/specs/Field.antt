@@ -1,10 +1,12 @@
 -- What a type says of a field, and what it becomes where a field is written or a table is frozen.
-use Rattle.std.specs.Prelude.{ℕ, true, List, if◌then◌else◌}
+use Rattle.std.specs.Prelude.{ℕ, Bool, true, ◌&&◌, List, if◌then◌else◌}
 use Rattle.std.specs.Str.{bytes_eq}
 use Rattle.type_arena.specs.Term.{Term, term, Rows, no_rows, more_rows, Fields, no_fields, more_fields, never}
+use Rattle.luau_values.specs.Heap.{Heap, Field, value_of}
 use Rattle.type_normal.specs.Free.{no_values}
+use Rattle.type_normal.specs.Holds.{holds}
 use Rattle.type_normal.specs.Rows.{put_normal, put_row}
-use Rattle.type_normal.specs.Operations.{union, put_field}
+use Rattle.type_normal.specs.Operations.{union, meet_fields}
 use Rattle.type_normal.specs.Kinds.{unknown}
 
 -- the type of a field in a row: unknown if it isn't listed
@@ -26,7 +28,7 @@ without_field name no_fields = no_fields
 without_field name (more_fields other type fields) = if bytes_eq other name then without_field name fields else more_fields other type (without_field name fields)
 
 abbrev pub set_field : List ℕ → Term → Fields → Fields
-set_field name type fields = put_field name type (λ old. type) (without_field name fields)
+set_field name type fields = meet_fields (more_fields name type no_fields) (without_field name fields)
 
 -- each row with this type for this field
 abbrev pub rows_with_field : List ℕ → Term → Rows → Rows
@@ -46,3 +48,8 @@ freeze_rows (more_rows frozen fields rows) = put_row true fields (freeze_rows ro
 -- the tables of a type that are frozen
 abbrev pub frozen_rows : Term → Term
 frozen_rows (term free rows) = term no_values (freeze_rows rows)
+
+-- whether the values of some fields are in the types that are given for their names
+abbrev pub all_typed : Heap → List Field → Fields → Bool
+all_typed heap fields no_fields = true
+all_typed heap fields (more_fields name type types) = holds heap (value_of name fields) type && all_typed heap fields types

@@ -78,10 +78,10 @@ outside_free a = record {
 
 -- whether it has no part, and whether it has all, by form
 abbrev pub is_no_free : Free → Bool
-is_no_free a = not a.nil && not a.truth && not a.falsity && not a.number && not a.other && is_no_set a.strings && is_no_set a.functions
+is_no_free a = not a.nil && (not a.truth && (not a.falsity && (not a.number && (not a.other && (is_no_set a.strings && is_no_set a.functions)))))
 
 abbrev pub is_whole_free : Free → Bool
-is_whole_free a = a.nil && a.truth && a.falsity && a.number && a.other && is_whole_set a.strings && is_whole_set a.functions
+is_whole_free a = a.nil && (a.truth && (a.falsity && (a.number && (a.other && (is_whole_set a.strings && is_whole_set a.functions)))))
 
 -- how two compare: by their parts in their order, and what lacks a part comes first
 abbrev pub free_cmp : Free → Free → Ordering

@@ -100,7 +100,7 @@ abbrev mutual
 
   pub rows_free_of : List ℕ → Rows → Bool
   rows_free_of name no_rows = true
-  rows_free_of name (more_rows frozen fields rows) = (frozen || not (has_field name fields)) && fields_free_of name fields && rows_free_of name rows
+  rows_free_of name (more_rows frozen fields rows) = ((frozen || not (has_field name fields)) && fields_free_of name fields) && rows_free_of name rows
 
   pub fields_free_of : List ℕ → Fields → Bool
   fields_free_of name no_fields = true

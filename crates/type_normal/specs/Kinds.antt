@@ -1,6 +1,7 @@
 -- The kinds of types, the types of one value, and rows.
-use Rattle.std.specs.Prelude.{ℕ, Bool, true, false, List, [], ◌∷◌, Option, Some, None, if◌then◌else◌}
-use Rattle.type_arena.specs.Term.{Members, only, all_but, Function, Free, Term, term, no_rows, Fields, no_fields, more_fields}
+use Rattle.std.specs.Prelude.{ℕ, Bool, true, false, not, ◌≡◌, List, [], ◌∷◌, Option, Some, None, if◌then◌else◌}
+use Rattle.type_arena.specs.Term.{Members, only, all_but, Function, builtin, literal, Free, Term, term, Rows, no_rows, Fields, no_fields, more_fields}
+use Rattle.luau_values.specs.Value.{Value, Nil, Truth, Num, Str, Tab, Lit, Builtin, Other}
 use Rattle.type_normal.specs.Free.{no_values, all_values, is_no_free}
 use Rattle.type_normal.specs.Rows.{any_table, put_normal}
 use Rattle.type_normal.specs.Operations.{not_free}
@@ -78,3 +79,58 @@ only_function _ = None
 abbrev pub exactly_one_function : Term → Option Function
 exactly_one_function (term free no_rows) = if has_functions_alone free then only_function free.functions else None
 exactly_one_function (term free _) = None
+
+-- whether a value is nil or false
+abbrev pub is_falsy : Value → Bool
+is_falsy Nil = true
+is_falsy (Truth truth) = not truth
+is_falsy _ = false
+
+-- a value is a certain function: the builtin with its path, or a closure of the literal with its home and its number
+abbrev pub IsFunction : Function → Value → Type 0
+IsFunction (builtin path) value = value ≡ Builtin path
+IsFunction (literal home number) value = (cells : List (ℕ × ℕ)) × (value ≡ Lit home number cells)
+
+-- some kinds of values
+pub record Kinds : Type 0 where
+  pub nil : Bool
+  pub boolean : Bool
+  pub number : Bool
+  pub string : Bool
+  pub table : Bool
+  pub function : Bool
+  pub other : Bool
+
+-- whether a value is of one of some kinds
+abbrev pub has_kind : Kinds → Value → Bool
+has_kind kinds Nil = kinds.nil
+has_kind kinds (Truth truth) = kinds.boolean
+has_kind kinds (Num text) = kinds.number
+has_kind kinds (Str bytes) = kinds.string
+has_kind kinds (Tab address) = kinds.table
+has_kind kinds (Lit home number cells) = kinds.function
+has_kind kinds (Builtin path) = kinds.function
+has_kind kinds (Other number) = kinds.other
+
+-- all members of a set, or none
+abbrev pub all_or_none : {X : Type 0} → Bool → Members X
+all_or_none true = all_but []
+all_or_none false = only []
+
+-- all tables, or none
+abbrev pub all_tables_or_none : Bool → Rows
+all_tables_or_none true = any_table
+all_tables_or_none false = no_rows
+
+-- the values of some kinds
+abbrev pub kinds_type : Kinds → Term
+kinds_type kinds =
+    term (record {
+      nil = kinds.nil;
+      truth = kinds.boolean;
+      falsity = kinds.boolean;
+      number = kinds.number;
+      other = kinds.other;
+      strings = all_or_none kinds.string;
+      functions = all_or_none kinds.function;
+    }) (all_tables_or_none kinds.table)

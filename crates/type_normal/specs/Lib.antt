@@ -8,3 +8,4 @@ pub mod HeapFree
 pub mod Cut
 pub mod Field
 pub mod Examples
+pub mod Failing

@@ -102,8 +102,8 @@ abbrev mutual
 
   pub are_normal_rows : Rows → Bool
   are_normal_rows no_rows = true
-  are_normal_rows (more_rows frozen fields rows) = names_in_order fields && are_normal_fields fields && comes_first frozen fields rows && are_normal_rows rows
+  are_normal_rows (more_rows frozen fields rows) = (names_in_order fields && are_normal_fields fields) && (comes_first frozen fields rows && are_normal_rows rows)
 
   pub are_normal_fields : Fields → Bool
   are_normal_fields no_fields = true
-  are_normal_fields (more_fields name type fields) = is_normal type && not (is_empty type) && not (is_unknown type) && are_normal_fields fields
+  are_normal_fields (more_fields name type fields) = is_normal type && (not (is_empty type || is_unknown type) && are_normal_fields fields)

@@ -2,3 +2,5 @@
 #![tactic(auto)]
 
 pub mod examples;
+pub mod heap_laws;
+pub mod laws;
