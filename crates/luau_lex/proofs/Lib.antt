@@ -24,4 +24,5 @@ pub mod StopLemmas
 pub mod StringLemmas
 pub mod TokenLemmas
 pub mod ValueLemmas
+pub mod WithinLemmas
 pub mod WordLemmas

@@ -1,6 +1,7 @@
 -- No token of a text could be longer at its place, and its braces match.
-use Rattle.std.proofs.Common.{◌≡◌, inl, inr, ℕ, ◌<◌, ◌≤◌, Bool, true, false, ◌&&◌, ◌||◌, eqb, cond, List, ◌∷◌, ◌++◌, length, take, drop, slice_index, Option, Some, None, is_some, sym, refl, ap, subst, ◌∙◌, arith, eqb-true, ne_eqb, length-append}
-use Rattle.std.specs.List.{prefix_len}
+use Rattle.std.proofs.Common.{◌≡◌, inl, inr, ℕ, ◌<◌, ◌≤◌, Bool, true, false, ◌&&◌, ◌||◌, eqb, cond, List, [], ◌∷◌, ◌++◌, length, take, drop, slice_index, Option, Some, None, is_some, sym, refl, ap, subst, ◌∙◌, arith, eqb-true, ne_eqb, length-append}
+use Rattle.std.specs.Prelude.{codes, not}
+use Rattle.std.specs.List.{prefix_len, list_all, list_any}
 use Rattle.std.specs.Char.{is_ascii_digit}
 use Rattle.std.proofs.str.Laws.{order}
 use Rattle.std.proofs.Math.Seq.{take-append_seam}
@@ -28,95 +29,61 @@ use Rattle.luau_lex.proofs.PlaceLemmas.{name_bound, numeral_bound, quoted_bound,
 other_byte : (p : ℕ → Bool) (a k : ℕ) → p a ≡ true → p k ≡ false → eqb a k ≡ false
 other_byte p a k h none = ne_eqb a k (λ same. let wrong = ap p same in cc)
 
-pub name_no_sign : (a b c : ℕ) → is_name_start a ≡ true → sign_len_of a b c ≡ 0
+-- the bytes with which signs begin
+abbrev sign_firsts : List ℕ
+sign_firsts = codes "./+*%^=<>~-:#(){}[];,?|&@"
+
+is_no : (t : Bool) → not t ≡ true → t ≡ false
+is_no true h = absurd (cc)
+is_no false h = refl
+
+-- none of the listed bytes is of the class
+none_listed : (p : ℕ → Bool) (ks : List ℕ) (k : ℕ) → list_all (λ j. not (p j)) ks ≡ true → list_any (eqb k) ks ≡ true → p k ≡ false
+none_listed p [] k none there = absurd (cc)
+none_listed p (j ∷ ks) k none there =
+    and_at (not (p j)) (list_all (λ i. not (p i)) ks) none
+    (λ here more. or_at (eqb k j) (list_any (eqb k) ks) there (λ same. ap p (eqb-true k j same) ∙ is_no (p j) here) (none_listed p ks k more))
+
+-- where a byte stands of a class in which no sign begins, no sign stands
+class_no_sign : (p : ℕ → Bool) (a b c : ℕ) → list_all (λ k. not (p k)) sign_firsts ≡ true → p a ≡ true → sign_len_of a b c ≡ 0
 unfolding sign_len_of
-name_no_sign a b c h =
-    let e46 : eqb a 46 ≡ false = other_byte is_name_start a 46 h refl in
-    let e47 : eqb a 47 ≡ false = other_byte is_name_start a 47 h refl in
-    let e43 : eqb a 43 ≡ false = other_byte is_name_start a 43 h refl in
-    let e42 : eqb a 42 ≡ false = other_byte is_name_start a 42 h refl in
-    let e37 : eqb a 37 ≡ false = other_byte is_name_start a 37 h refl in
-    let e94 : eqb a 94 ≡ false = other_byte is_name_start a 94 h refl in
-    let e61 : eqb a 61 ≡ false = other_byte is_name_start a 61 h refl in
-    let e60 : eqb a 60 ≡ false = other_byte is_name_start a 60 h refl in
-    let e62 : eqb a 62 ≡ false = other_byte is_name_start a 62 h refl in
-    let e126 : eqb a 126 ≡ false = other_byte is_name_start a 126 h refl in
-    let e45 : eqb a 45 ≡ false = other_byte is_name_start a 45 h refl in
-    let e58 : eqb a 58 ≡ false = other_byte is_name_start a 58 h refl in
-    let e35 : eqb a 35 ≡ false = other_byte is_name_start a 35 h refl in
-    let e40 : eqb a 40 ≡ false = other_byte is_name_start a 40 h refl in
-    let e41 : eqb a 41 ≡ false = other_byte is_name_start a 41 h refl in
-    let e123 : eqb a 123 ≡ false = other_byte is_name_start a 123 h refl in
-    let e125 : eqb a 125 ≡ false = other_byte is_name_start a 125 h refl in
-    let e91 : eqb a 91 ≡ false = other_byte is_name_start a 91 h refl in
-    let e93 : eqb a 93 ≡ false = other_byte is_name_start a 93 h refl in
-    let e59 : eqb a 59 ≡ false = other_byte is_name_start a 59 h refl in
-    let e44 : eqb a 44 ≡ false = other_byte is_name_start a 44 h refl in
-    let e63 : eqb a 63 ≡ false = other_byte is_name_start a 63 h refl in
-    let e124 : eqb a 124 ≡ false = other_byte is_name_start a 124 h refl in
-    let e38 : eqb a 38 ≡ false = other_byte is_name_start a 38 h refl in
-    let e64 : eqb a 64 ≡ false = other_byte is_name_start a 64 h refl in
+class_no_sign p a b c outside h =
+    let other : (k : ℕ) → list_any (eqb k) sign_firsts ≡ true → eqb a k ≡ false = λ k there. other_byte p a k h (none_listed p sign_firsts k outside there) in
+    let e46 : eqb a 46 ≡ false = other 46 refl in
+    let e47 : eqb a 47 ≡ false = other 47 refl in
+    let e43 : eqb a 43 ≡ false = other 43 refl in
+    let e42 : eqb a 42 ≡ false = other 42 refl in
+    let e37 : eqb a 37 ≡ false = other 37 refl in
+    let e94 : eqb a 94 ≡ false = other 94 refl in
+    let e61 : eqb a 61 ≡ false = other 61 refl in
+    let e60 : eqb a 60 ≡ false = other 60 refl in
+    let e62 : eqb a 62 ≡ false = other 62 refl in
+    let e126 : eqb a 126 ≡ false = other 126 refl in
+    let e45 : eqb a 45 ≡ false = other 45 refl in
+    let e58 : eqb a 58 ≡ false = other 58 refl in
+    let e35 : eqb a 35 ≡ false = other 35 refl in
+    let e40 : eqb a 40 ≡ false = other 40 refl in
+    let e41 : eqb a 41 ≡ false = other 41 refl in
+    let e123 : eqb a 123 ≡ false = other 123 refl in
+    let e125 : eqb a 125 ≡ false = other 125 refl in
+    let e91 : eqb a 91 ≡ false = other 91 refl in
+    let e93 : eqb a 93 ≡ false = other 93 refl in
+    let e59 : eqb a 59 ≡ false = other 59 refl in
+    let e44 : eqb a 44 ≡ false = other 44 refl in
+    let e63 : eqb a 63 ≡ false = other 63 refl in
+    let e124 : eqb a 124 ≡ false = other 124 refl in
+    let e38 : eqb a 38 ≡ false = other 38 refl in
+    let e64 : eqb a 64 ≡ false = other 64 refl in
     simp (e46, e47, e43, e42, e37, e94, e61, e60, e62, e126, e45, e58, e35, e40, e41, e123, e125, e91, e93, e59, e44, e63, e124, e38, e64)
+
+pub name_no_sign : (a b c : ℕ) → is_name_start a ≡ true → sign_len_of a b c ≡ 0
+name_no_sign a b c h = class_no_sign is_name_start a b c refl h
 
 pub digit_no_sign : (a b c : ℕ) → is_ascii_digit a ≡ true → sign_len_of a b c ≡ 0
-unfolding sign_len_of
-digit_no_sign a b c h =
-    let e46 : eqb a 46 ≡ false = other_byte is_ascii_digit a 46 h refl in
-    let e47 : eqb a 47 ≡ false = other_byte is_ascii_digit a 47 h refl in
-    let e43 : eqb a 43 ≡ false = other_byte is_ascii_digit a 43 h refl in
-    let e42 : eqb a 42 ≡ false = other_byte is_ascii_digit a 42 h refl in
-    let e37 : eqb a 37 ≡ false = other_byte is_ascii_digit a 37 h refl in
-    let e94 : eqb a 94 ≡ false = other_byte is_ascii_digit a 94 h refl in
-    let e61 : eqb a 61 ≡ false = other_byte is_ascii_digit a 61 h refl in
-    let e60 : eqb a 60 ≡ false = other_byte is_ascii_digit a 60 h refl in
-    let e62 : eqb a 62 ≡ false = other_byte is_ascii_digit a 62 h refl in
-    let e126 : eqb a 126 ≡ false = other_byte is_ascii_digit a 126 h refl in
-    let e45 : eqb a 45 ≡ false = other_byte is_ascii_digit a 45 h refl in
-    let e58 : eqb a 58 ≡ false = other_byte is_ascii_digit a 58 h refl in
-    let e35 : eqb a 35 ≡ false = other_byte is_ascii_digit a 35 h refl in
-    let e40 : eqb a 40 ≡ false = other_byte is_ascii_digit a 40 h refl in
-    let e41 : eqb a 41 ≡ false = other_byte is_ascii_digit a 41 h refl in
-    let e123 : eqb a 123 ≡ false = other_byte is_ascii_digit a 123 h refl in
-    let e125 : eqb a 125 ≡ false = other_byte is_ascii_digit a 125 h refl in
-    let e91 : eqb a 91 ≡ false = other_byte is_ascii_digit a 91 h refl in
-    let e93 : eqb a 93 ≡ false = other_byte is_ascii_digit a 93 h refl in
-    let e59 : eqb a 59 ≡ false = other_byte is_ascii_digit a 59 h refl in
-    let e44 : eqb a 44 ≡ false = other_byte is_ascii_digit a 44 h refl in
-    let e63 : eqb a 63 ≡ false = other_byte is_ascii_digit a 63 h refl in
-    let e124 : eqb a 124 ≡ false = other_byte is_ascii_digit a 124 h refl in
-    let e38 : eqb a 38 ≡ false = other_byte is_ascii_digit a 38 h refl in
-    let e64 : eqb a 64 ≡ false = other_byte is_ascii_digit a 64 h refl in
-    simp (e46, e47, e43, e42, e37, e94, e61, e60, e62, e126, e45, e58, e35, e40, e41, e123, e125, e91, e93, e59, e44, e63, e124, e38, e64)
+digit_no_sign a b c h = class_no_sign is_ascii_digit a b c refl h
 
 pub blank_no_sign : (a b c : ℕ) → is_blank a ≡ true → sign_len_of a b c ≡ 0
-unfolding sign_len_of
-blank_no_sign a b c h =
-    let e46 : eqb a 46 ≡ false = other_byte is_blank a 46 h refl in
-    let e47 : eqb a 47 ≡ false = other_byte is_blank a 47 h refl in
-    let e43 : eqb a 43 ≡ false = other_byte is_blank a 43 h refl in
-    let e42 : eqb a 42 ≡ false = other_byte is_blank a 42 h refl in
-    let e37 : eqb a 37 ≡ false = other_byte is_blank a 37 h refl in
-    let e94 : eqb a 94 ≡ false = other_byte is_blank a 94 h refl in
-    let e61 : eqb a 61 ≡ false = other_byte is_blank a 61 h refl in
-    let e60 : eqb a 60 ≡ false = other_byte is_blank a 60 h refl in
-    let e62 : eqb a 62 ≡ false = other_byte is_blank a 62 h refl in
-    let e126 : eqb a 126 ≡ false = other_byte is_blank a 126 h refl in
-    let e45 : eqb a 45 ≡ false = other_byte is_blank a 45 h refl in
-    let e58 : eqb a 58 ≡ false = other_byte is_blank a 58 h refl in
-    let e35 : eqb a 35 ≡ false = other_byte is_blank a 35 h refl in
-    let e40 : eqb a 40 ≡ false = other_byte is_blank a 40 h refl in
-    let e41 : eqb a 41 ≡ false = other_byte is_blank a 41 h refl in
-    let e123 : eqb a 123 ≡ false = other_byte is_blank a 123 h refl in
-    let e125 : eqb a 125 ≡ false = other_byte is_blank a 125 h refl in
-    let e91 : eqb a 91 ≡ false = other_byte is_blank a 91 h refl in
-    let e93 : eqb a 93 ≡ false = other_byte is_blank a 93 h refl in
-    let e59 : eqb a 59 ≡ false = other_byte is_blank a 59 h refl in
-    let e44 : eqb a 44 ≡ false = other_byte is_blank a 44 h refl in
-    let e63 : eqb a 63 ≡ false = other_byte is_blank a 63 h refl in
-    let e124 : eqb a 124 ≡ false = other_byte is_blank a 124 h refl in
-    let e38 : eqb a 38 ≡ false = other_byte is_blank a 38 h refl in
-    let e64 : eqb a 64 ≡ false = other_byte is_blank a 64 h refl in
-    simp (e46, e47, e43, e42, e37, e94, e61, e60, e62, e126, e45, e58, e35, e40, e41, e123, e125, e91, e93, e59, e44, e63, e124, e38, e64)
+blank_no_sign a b c h = class_no_sign is_blank a b c refl h
 
 pub digit_behind_dot : (b c : ℕ) → is_ascii_digit b ≡ true → sign_len_of dot b c ≡ 1
 unfolding sign_len_of

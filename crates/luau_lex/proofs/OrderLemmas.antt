@@ -69,7 +69,7 @@ chosen_within true n most h = h
 chosen_within false n most h = omega arith
 
 -- a first line that is a comment lies within the text
-first_line_within : (text : List ℕ) → first_line_len text ≤ length text
+pub first_line_within : (text : List ℕ) → first_line_len text ≤ length text
 unfolding first_line_len
 first_line_within text = chosen_within _ _ _ (prefix_len-le-length is_no_line_feed text)
 

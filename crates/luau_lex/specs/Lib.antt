@@ -14,4 +14,5 @@ pub mod Spellings
 pub mod Braces
 pub mod LongestTokens
 pub mod Faults
+pub mod Places
 pub mod NumeralForms

@@ -16,8 +16,8 @@ IsExponentMark mark =
     (mark ≡ []) ⊎ ((letter : ℕ) × (is_exponent_letter letter ≡ true)
     × ((mark ≡ letter ∷ []) ⊎ ((sign : ℕ) × (is_exponent_sign sign ≡ true) × (mark ≡ letter ∷ sign ∷ []))))
 
--- What begins like a numeral and looks like one: digits, dots and underlines, then perhaps an exponent's letter
--- and sign, then letters, digits and underlines.
+-- What begins like a numeral and looks like one: digits, dots and underscores, then perhaps an exponent's letter
+-- and sign, then letters, digits and underscores.
 abbrev pub IsNumeralWord : List ℕ → Type 0
 IsNumeralWord bytes =
     (digits mark rest : List ℕ) × (bytes ≡ digits ++ (mark ++ rest)) × (begins_numeral bytes ≡ true)

@@ -5,7 +5,7 @@ use Rattle.std.specs.Char.{is_ascii_digit, is_ascii_hexdigit}
 use Rattle.luau_lex.specs.Bytes.{dot, is_digit_or_underscore, is_hex_or_underscore, is_binary_or_underscore}
 use Rattle.luau_lex.specs.Numerals.{is_exponent_letter, is_exponent_sign}
 
--- a digit, and then digits and underlines
+-- a digit, and then digits and underscores
 abbrev pub IsDigits : List ℕ → Type 0
 IsDigits bytes =
     (digit : ℕ) × (rest : List ℕ) × (bytes ≡ digit ∷ rest) × (is_ascii_digit digit ≡ true) × (list_all is_digit_or_underscore rest ≡ true)
@@ -16,7 +16,7 @@ IsExponent bytes =
     (bytes ≡ []) ⊎ ((letter : ℕ) × (digits : List ℕ) × (is_exponent_letter letter ≡ true) × IsDigits digits
     × ((bytes ≡ letter ∷ digits) ⊎ ((sign : ℕ) × (is_exponent_sign sign ≡ true) × (bytes ≡ letter ∷ sign ∷ digits))))
 
--- Digits and perhaps a dot with digits and underlines or none behind it, or a dot and digits.
+-- Digits and perhaps a dot with digits and underscores or none behind it, or a dot and digits.
 abbrev pub IsMantissa : List ℕ → Type 0
 IsMantissa bytes =
     IsDigits bytes
@@ -27,13 +27,13 @@ IsMantissa bytes =
 abbrev pub IsDecimal : List ℕ → Type 0
 IsDecimal bytes = (mantissa : List ℕ) × (exponent : List ℕ) × (bytes ≡ mantissa ++ exponent) × IsMantissa mantissa × IsExponent exponent
 
--- 0x or 0X, and hexadecimal digits and underlines, at least one of them a digit
+-- 0x or 0X, and hexadecimal digits and underscores, at least one of them a digit
 abbrev pub IsHexadecimal : List ℕ → Type 0
 IsHexadecimal bytes =
     (letter : ℕ) × (digits : List ℕ) × (bytes ≡ 48 ∷ letter ∷ digits) × ((letter ≡ 120) ⊎ (letter ≡ 88))
     × (list_all is_hex_or_underscore digits ≡ true) × (list_any is_ascii_hexdigit digits ≡ true)
 
--- 0b or 0B, and 0, 1 and underlines, at least one of them a digit
+-- 0b or 0B, and 0, 1 and underscores, at least one of them a digit
 abbrev pub IsBinary : List ℕ → Type 0
 IsBinary bytes =
     (letter : ℕ) × (digits : List ℕ) × (bytes ≡ 48 ∷ letter ∷ digits) × ((letter ≡ 98) ⊎ (letter ≡ 66))

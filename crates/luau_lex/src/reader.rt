@@ -1,9 +1,10 @@
-ghost use Rattle.std.specs.Prelude.{◌≡◌, ◌≢◌, ◌≤◌, ◌<◌, ◌+◌, ◌++◌, ◌∷◌, [], length, take, drop, slice_index, IfOk, IfErr, OnOk, List, ℕ, map, Ok, Err, Some};
+ghost use Rattle.std.specs.Prelude.{◌≡◌, ◌≢◌, ◌≤◌, ◌<◌, ◌+◌, ◌++◌, ◌∷◌, [], length, take, drop, slice_index, All, AllPairs, IfOk, IfErr, OnOk, List, ℕ, map, Ok, Err, Some};
 ghost use Rattle.luau_lex.specs.declared.token.LexError.TheVariants.{NoMemory};
 ghost use Rattle.luau_lex.specs.Tokens.{Tok, seen_token, token_at, tokens_of, first_line_len};
 ghost use Rattle.luau_lex.specs.Pieces.{opens_behind, innermost};
 ghost use Rattle.luau_lex.specs.Steps.{IsSmall, HasRead};
 ghost use Rattle.luau_lex.specs.Grammar.{HasTokens};
+ghost use Rattle.luau_lex.specs.Places.{IsWithinText, fault_offset};
 
 use crate::bytes::{Class, byte_at, run_len};
 use crate::front::piece;
@@ -150,6 +151,11 @@ pub fn lex<'s>(alloc: Global, text: &'s [u8]) -> Result<Vec<Token<'s>>, LexError
     ensures tokens { IfOk result (λ v. HasTokens text.now (Ok (map seen_token v.items))) }
     // This is where the text can be cut no further.
     ensures fault { IfErr result (λ e. e ≢ NoMemory → HasTokens text.now (Err e)) }
+    // Each token has a byte at least and lies within the text, and ends before the next ones begin.
+    ensures spans { IfOk result (λ v. All (λ t. IsWithinText (length text.now) t.span) v.items) }
+    ensures order { IfOk result (λ v. AllPairs (λ s t. s.span.end ≤ t.span.start) v.items) }
+    // The fault stands at a byte of the text.
+    ensures fault_within { IfErr result (λ e. e ≢ NoMemory → fault_offset e < length text.now) }
     // The same, computed.
     ensures computed { IfOk result (λ v. tokens_of text.now ≡ Ok (map seen_token v.items)) }
     ensures computed_fault { IfErr result (λ e. e ≢ NoMemory → tokens_of text.now ≡ Err e) }

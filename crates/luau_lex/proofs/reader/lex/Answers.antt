@@ -1,4 +1,4 @@
-use Rattle.std.proofs.Common.{rules, ◌≡◌, ◌≢◌, ℕ, Result, Err, IfErr, List, ◌∷◌, Bool, true, nat_eq, Ok, refl, subst, [], map, length, ap, ◌∙◌, arith, length-drop, drop, zero-add}
+use Rattle.std.proofs.Common.{rules, ◌≡◌, ◌≢◌, ◌<◌, ℕ, Result, Err, IfErr, List, ◌∷◌, Bool, true, nat_eq, Ok, refl, subst, [], map, length, ap, ◌∙◌, arith, length-drop, drop, zero-add}
 use Rattle.luau_lex.specs.declared.token.LexError.{LexError}
 use Rattle.luau_lex.specs.declared.token.LexError.TheVariants.{NoMemory}
 use Rattle.luau_lex.specs.Tokens.{seen_token, tokens_of}
@@ -7,6 +7,8 @@ use Rattle.luau_lex.specs.Steps.{HasRead}
 use Rattle.luau_lex.specs.declared.reader.Reader.{Reader}
 use Rattle.std.proofs.lemmas.List.{append-nil}
 use Rattle.luau_lex.proofs.GrammarLemmas.{start_has, has_then}
+use Rattle.luau_lex.proofs.WithinLemmas.{text_spans, text_apart, text_fault}
+use Rattle.luau_lex.specs.Places.{fault_offset}
 use Rattle.luau_lex.proofs.reader.lex.Goals as goal
 
 -- nothing is found yet, and the first line is passed over where it is a comment
@@ -57,3 +59,17 @@ fault_computes text (Err e) h = λ other. has_then text (Err e) (h other)
 
 pub returns-in_err-read-clause-computed_fault : goal.returns-in_err-read-clause-computed_fault
 returns-in_err-read-clause-computed_fault c = fault_computes c.args.text.now c.from_residual.result (search rules)
+
+pub returns-clause-spans : goal.returns-clause-spans
+returns-clause-spans c = text_spans c.args.text.now _ (returns-clause-tokens c)
+
+pub returns-clause-order : goal.returns-clause-order
+returns-clause-order c = text_apart c.args.text.now _ (returns-clause-tokens c)
+
+-- the fault that the text has lies within it
+fault_lies : {T : Type 0} (text : List ℕ) (r : Result T LexError) → IfErr r (λ e. e ≢ NoMemory → HasTokens text (Err e)) → IfErr r (λ e. e ≢ NoMemory → fault_offset e < length text)
+fault_lies text (Ok x) h = tt
+fault_lies text (Err e) h = λ other. text_fault text e (h other)
+
+pub returns-in_err-read-clause-fault_within : goal.returns-in_err-read-clause-fault_within
+returns-in_err-read-clause-fault_within c = fault_lies c.args.text.now c.from_residual.result (search rules)
