@@ -1,0 +1,7 @@
+pub mod Examples
+pub mod Finds
+pub mod Found
+pub mod Locals
+pub mod Names
+pub mod Refusals
+pub mod Samples
