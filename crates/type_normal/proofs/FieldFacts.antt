@@ -78,7 +78,7 @@ listed_by : (h : Heap) (a : ℕ) (p q : List ℕ) (t u : Term) (b : Bool) → by
 listed_by h a p q t u true e k l = let same : p ≡ q = sym ((bytes_eq-Decides q p).0 e) in rw same k
 listed_by h a p q t u false e k l = l
 
-listed_holds : (h : Heap) (a : ℕ) (p : List ℕ) (fs : Fields) → holds_fields h a fs ≡ true → holds h (field_of h a p) (listed_type p fs) ≡ true
+pub listed_holds : (h : Heap) (a : ℕ) (p : List ℕ) (fs : Fields) → holds_fields h a fs ≡ true → holds h (field_of h a p) (listed_type p fs) ≡ true
 listed_holds h a p no_fields e = unknown_all h (field_of h a p)
 listed_holds h a p (more_fields q t fs) e =
     listed_by h a p q t (listed_type p fs) (bytes_eq q p) refl (left (holds h (field_of h a q) t) (holds_fields h a fs) e)
