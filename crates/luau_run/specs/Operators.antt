@@ -120,22 +120,33 @@ field program name (Str bytes) = give (string_field program name)
 field program name (Other number) = anything program
 field program name _ = fail
 
--- a value, or any value in place of nil
-abbrev pub or_any : Program → Value → Part Value
-or_any program value = if is_nil value then (look >>= (λ store. ask (a_value program store))) else give value
+-- any value that can be there by now
+abbrev pub any_value : Program → Part Value
+any_value program = look >>= (λ store. ask (a_value program store))
 
--- what a name reads as in a value; straight off a library's name it is any value where nothing is declared
-abbrev pub named_field : Program → (off_library : Bool) → List ℕ → Value → Part Value
-named_field program off_library name value =
-    field program name value >>= (λ found. if off_library then or_any program found else give found)
+-- what an expression gave whose field or element is read or written, and whether the expression is a library's name
+pub record Base : Type 0 where
+  pub value : Value
+  pub is_library : Bool
 
--- what stands in a value under a key; only a string is a name
-abbrev pub element : Program → (off_library : Bool) → (key value : Value) → Part Value
-element program off_library (Str name) value = named_field program off_library name value
-element program off_library key (Tab address) = look >>= (λ store. ask (a_value program store))
-element program off_library key (Str bytes) = look >>= (λ store. ask (a_value program store))
-element program off_library key (Other number) = anything program
-element program off_library key _ = fail
+-- what a name reads as off a base: the field; but where the base is a library's name, and nothing is declared there, any
+-- value. So it is in every form: `math.zz`, `math:zz()`, `math["zz"]`, a computed key, the read of a compound
+abbrev pub named_field : Program → List ℕ → Base → Part Value
+named_field program name base = do
+  found ← field program name base.value
+  if base.is_library && is_nil found then any_value program else give found
+
+-- what stands in a value under a key that is no string
+abbrev pub other_element : Program → Value → Part Value
+other_element program (Tab address) = any_value program
+other_element program (Str bytes) = any_value program
+other_element program (Other number) = anything program
+other_element program _ = fail
+
+-- what stands in a base under a key; only a string is a name
+abbrev pub element : Program → (key : Value) → Base → Part Value
+element program (Str name) base = named_field program name base
+element program key base = other_element program base.value
 
 -- a write to a field
 abbrev pub set_field : List ℕ → (written value : Value) → Part (Unit {0})
