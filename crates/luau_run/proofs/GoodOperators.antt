@@ -1,5 +1,5 @@
 -- The operators are good parts.
-use Rattle.std.proofs.Common.{ℕ, Bool, ◌&&◌, List, Option, refl}
+use Rattle.std.proofs.Common.{ℕ, ◌&&◌, List, Option, refl}
 use Rattle.luau_values.specs.Value.{Value, Nil, Truth, Num, Str, Tab, Lit, Builtin, Other, is_nil}
 use Rattle.luau_values.specs.Heap.{Field}
 use Rattle.luau_values.proofs.Public.{later_refl, table_later, freeze_later}
@@ -8,8 +8,7 @@ use Rattle.luau_tree.specs.declared.names.UnOp.TheVariants.{Minus, Not, Length}
 use Rattle.luau_tree.specs.declared.names.BinOp.{BinOp}
 use Rattle.luau_tree.specs.declared.names.BinOp.TheVariants.{Or, And, Less, Greater, LessEqual, GreaterEqual, NotEqual, Equal, Concat, Add, Sub, Mul, Div, FloorDiv, Mod, Pow}
 use Rattle.luau_run.specs.Program.{Program}
-use Rattle.luau_run.specs.Machine.{◌>>=◌, look, ask, make_table, freeze_table, new_cell, set_cell, bind_local}
-use Rattle.luau_run.specs.Answers.{a_value}
+use Rattle.luau_run.specs.Machine.{make_table, freeze_table, new_cell, set_cell, bind_local}
 use Rattle.luau_run.specs.Operators.{Sort, NumberSort, StringSort, OtherSort, WrongSort, sort, anything, arithmetic_of, joined, ordered, equal, binary, negated, length_of, unary, field, any_value, Base, named_field, other_element, element, set_field}
 use Rattle.luau_run.proofs.Good.{Good, good_give, good_fail, good_then, good_look, good_ask, good_change, good_write, good_if}
 

@@ -11,3 +11,4 @@ pub mod GoodLayers
 pub mod CallFacts
 pub mod QuietFacts
 pub mod ExampleFacts
+pub mod Homes

@@ -4,7 +4,8 @@ use Rattle.std.specs.List.{list_any, list_all}
 use Rattle.std.specs.Str.{bytes_eq}
 use Rattle.luau_values.specs.Value.{Value, Num, Str, Tab, Lit, Builtin}
 use Rattle.luau_values.specs.Heap.{is_frozen}
-use Rattle.luau_run.specs.Program.{Program, declaration}
+use Rattle.luau_run.specs.Program.{Program}
+use Rattle.luau_run.specs.Signature.{declaration}
 use Rattle.luau_run.specs.Machine.{Act, Write, Freeze, Make, Calls, Catches, Answer, One, Says, Fail, Turn, Stop, Does, Done, Store, Reply, Unfit, Fails, Fits}
 
 -- whether two closures captured the same cells

@@ -7,7 +7,9 @@ use Rattle.luau_values.specs.Value.{Value, Nil, Truth, Num, Str, Tab, Lit, Built
 use Rattle.luau_values.specs.Heap.{is_frozen}
 use Rattle.luau_tree.specs.Tree.{Block, no_stats, more_stats, Body, the_body, the_bind, Binds, no_binds, more_binds, Varargs, no_varargs, varargs}
 use Rattle.luau_tree.specs.declared.names.Place.TheVariants.{Param}
-use Rattle.luau_run.specs.Program.{Signature, declaration, takes, may_give, ReadModule, Program}
+use Rattle.luau_run.specs.Signature.{Signature, declaration, takes, may_give}
+use Rattle.luau_run.specs.ReadModule.{ReadModule}
+use Rattle.luau_run.specs.Program.{Program}
 use Rattle.luau_run.specs.Machine.{Reach, Act, Write, Freeze, Make, Calls, Catches, Closure, Part, ◌>>=◌, ◌>>◌, give, fail, spend, step, log, look, change, ask, catch, make_table, write_field, freeze_table, new_cell, bind_local, activate}
 use Rattle.luau_run.specs.Answers.{is_closure, yes_or_fail, other_kind, Aim, ForResults, Freedom, Free, Quiet, Move, Acts, Ends, a_move}
 use Rattle.luau_run.specs.Layer.{Frame, Ending, Falls, Returns, Layer, first}

@@ -11,7 +11,8 @@ use Rattle.luau_tree.specs.Tree as plain
 use Rattle.luau_tree.specs.declared.names.BinOp.{BinOp}
 use Rattle.luau_tree.specs.declared.names.BinOp.TheVariants.{Or, And}
 use Rattle.luau_tree.specs.declared.names.Place.TheVariants.{Expr as ExprPlace}
-use Rattle.luau_run.specs.Program.{Use, UseLocal, UseBuiltin, UseLibrary, UseGlobal, Program, paths}
+use Rattle.luau_run.specs.ReadModule.{Use, UseLocal, UseBuiltin, UseLibrary, UseGlobal}
+use Rattle.luau_run.specs.Program.{Program, paths}
 use Rattle.luau_run.specs.Machine.{Reach, Binding, Part, ◌>>=◌, ◌>>◌, give, spend, step, log, look, change, ask, make_table}
 use Rattle.luau_run.specs.Answers.{a_string, yes_or_fail}
 use Rattle.luau_run.specs.Layer.{Frame, Layer, first}

@@ -2,7 +2,7 @@
 use Rattle.std.specs.Prelude.{ℕ, List, [], ◌∷◌, Option}
 use Rattle.luau_values.specs.Value.{Value, Nil}
 use Rattle.luau_tree.specs.Tree.{Expr, Stat, Block, Binds}
-use Rattle.luau_run.specs.Program.{ReadModule}
+use Rattle.luau_run.specs.ReadModule.{ReadModule}
 use Rattle.luau_run.specs.Machine.{Part}
 use Rattle.luau_run.specs.Answers.{Aim, Freedom}
 

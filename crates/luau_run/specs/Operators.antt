@@ -8,7 +8,8 @@ use Rattle.luau_tree.specs.declared.names.UnOp.{UnOp}
 use Rattle.luau_tree.specs.declared.names.UnOp.TheVariants.{Minus, Not, Length}
 use Rattle.luau_tree.specs.declared.names.BinOp.{BinOp}
 use Rattle.luau_tree.specs.declared.names.BinOp.TheVariants.{Less, Greater, LessEqual, GreaterEqual, NotEqual, Equal, Concat}
-use Rattle.luau_run.specs.Program.{Program, declaration}
+use Rattle.luau_run.specs.Program.{Program}
+use Rattle.luau_run.specs.Signature.{declaration}
 use Rattle.luau_run.specs.Machine.{Part, ◌>>=◌, give, fail, look, ask, write_field}
 use Rattle.luau_run.specs.Answers.{a_value, value_or_fail, a_number, number_or_fail, a_string, a_truth, truth_or_fail, yes_or_fail}
 

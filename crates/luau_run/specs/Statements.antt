@@ -6,7 +6,8 @@ use Rattle.luau_values.specs.Heap.{is_frozen}
 use Rattle.luau_tree.specs.Tree.{Expr, the_expr, Exprs, no_exprs, more_exprs, MaybeExpr, no_expr, an_expr, NameExpr, Index, At, Block, Stat, the_stat, StatKind, Assign, Compound, CallStat, Do, While, Repeat, If, NumFor, GenFor, FunctionStat, LocalFunction, Local, TypeAlias, TypeFunction, Return, Break, Continue, Arms, no_arms, more_arms, MaybeBlock, no_block, a_block, Body, Bind, the_bind, Binds}
 use Rattle.luau_tree.specs.declared.names.BinOp.{BinOp}
 use Rattle.luau_tree.specs.declared.names.Place.TheVariants.{Expr as ExprPlace}
-use Rattle.luau_run.specs.Program.{Use, UseLocal, Program}
+use Rattle.luau_run.specs.ReadModule.{Use, UseLocal}
+use Rattle.luau_run.specs.Program.{Program}
 use Rattle.luau_run.specs.Machine.{Reach, Part, ◌>>=◌, ◌>>◌, give, fail, spend, step, log, look, ask, new_cell, set_cell, bind_local}
 use Rattle.luau_run.specs.Answers.{yes_or_fail}
 use Rattle.luau_run.specs.Layer.{Frame, Ending, Falls, Breaks, Continues, Returns, WhileLoop, RepeatLoop, NumLoop, FunctionLoop, TableLoop, OtherLoop, Layer, first}

@@ -2,10 +2,6 @@
 //! only by a run-time error. There is no program here: these are definitions, with laws.
 #![tactic(auto)]
 
-pub mod act_runs;
-pub mod call_runs;
-pub mod examples;
-pub mod forms;
 pub mod laws;
-pub mod loop_runs;
-pub mod operator_runs;
+pub mod read_folders;
+pub mod runs;
