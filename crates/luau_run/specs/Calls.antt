@@ -140,7 +140,8 @@ further_args (varargs t) (more_binds b rest) args = further_args (varargs t) res
 abbrev pub frame_of : (module_at : ℕ) → ReadModule → (further : List Value) → (activation : ℕ) → Frame
 frame_of at reading further activation = record { activation = activation; module_at = at; reading = reading; further = further }
 
--- what a body does in a frame of its own: the captured cells, the parameters, the places of these, the statements
+-- what a body does in a frame of its own: the captured cells, the parameters, the places of these,
+-- the statements
 abbrev pub run_in : Layer → Frame → List (ℕ × ℕ) → Body → List Value → Part Ending
 run_in layer frame cells (the_body id has_self generics params vararg result code span) args = do
   bind_captured frame.activation cells
@@ -177,7 +178,8 @@ call program layer _ args = fail
 abbrev pub loaded_value : List (ℕ × Value) → ℕ → Option Value
 loaded_value loaded at = option_map (λ l. l.1) (find (λ l. l.0 == at) loaded)
 
--- the value of a module is kept behind those that are there by now; so it counts unless one of the same module is
+-- the value of a module is kept behind those that are there by now; so it counts unless one of the
+-- same module is
 abbrev pub keep_loaded : ℕ → Value → List (ℕ × Value) → List (ℕ × Value)
 keep_loaded at value loaded = loaded ++ (at, value) ∷ []
 

@@ -124,7 +124,8 @@ chosen layer frame (more_choices cond v rest) last = do
   c ← value layer frame cond
   if is_true c then value layer frame v else chosen layer frame rest last
 
--- the fields that an item `[k] = v` gives: one where k is a string; else it is asked whether the write fails
+-- the fields that an item `[k] = v` gives: one where k is a string; else it is asked whether the
+-- write fails
 abbrev pub keyed_field : (key v : Value) → List Field → Part (List Field)
 keyed_field (Str name) v fields = give (written name v fields)
 keyed_field key v fields = ask yes_or_fail >> give fields

@@ -1,4 +1,5 @@
--- What operators do with values. An operand of a failing kind fails; otherwise what the rules leave open is asked for.
+-- What operators do with values. An operand of a failing kind fails; otherwise what the rules leave
+-- open is asked for.
 use Rattle.std.specs.Prelude.{ℕ, Bool, true, false, not, ◌&&◌, ◌==◌, if◌then◌else◌, List, ◌++◌, is_some, codes}
 use Rattle.std.specs.Bool.{beq}
 use Rattle.std.specs.Str.{bytes_eq}
@@ -66,7 +67,8 @@ ordered NumberSort NumberSort = ask a_truth >>= (λ truth. give (Truth truth))
 ordered StringSort StringSort = ask a_truth >>= (λ truth. give (Truth truth))
 ordered _ _ = fail
 
--- whether two values are equal: of two numbers, of two that are `Other`, and of two closures of one literal the tape says it
+-- whether two values are equal: of two numbers, of two that are `Other`, and of two closures of one
+-- literal the tape says it
 abbrev pub equal : Value → Value → Part Bool
 equal (Num a) (Num b) = ask a_truth
 equal (Other a) (Other b) = ask a_truth
@@ -125,13 +127,15 @@ field program name _ = fail
 abbrev pub any_value : Program → Part Value
 any_value program = look >>= (λ store. ask (a_value program store))
 
--- what an expression gave whose field or element is read or written, and whether the expression is a library's name
+-- what an expression gave whose field or element is read or written, and whether the expression is
+-- a library's name
 pub record Base : Type 0 where
   pub value : Value
   pub is_library : Bool
 
--- what a name reads as off a base: the field; but where the base is a library's name, and nothing is declared there, any
--- value. So it is in every form: `math.zz`, `math:zz()`, `math["zz"]`, a computed key, the read of a compound
+-- what a name reads as off a base: the field; but where the base is a library's name, and nothing
+-- is declared there, any value. So it is in every form: `math.zz`, `math:zz()`, `math["zz"]`, a
+-- computed key, the read of a compound
 abbrev pub named_field : Program → List ℕ → Base → Part Value
 named_field program name base = do
   found ← field program name base.value

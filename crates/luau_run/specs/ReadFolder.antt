@@ -1,5 +1,5 @@
--- Read folders: the programs that a folder of modules may be read as. Which of the locals a name means, and what
--- annotations say, is not said here.
+-- Read folders: the programs that a folder of modules may be read as. Which of the locals a name
+-- means, and what annotations say, is not said here.
 use Rattle.std.specs.Prelude.{◌≡◌, ◌<◌, ⊤, ℕ, zero, suc, Bool, true, false, not, ◌&&◌, ◌==◌, List, [], ◌∷◌, ◌++◌, length, map, Option, Some, None, is_some, slice_get}
 use Rattle.std.specs.Option.{option_map_or}
 use Rattle.std.specs.List.{AllByRecursion, list_any, filter_map}
@@ -51,8 +51,8 @@ abbrev pub is_global_name : Program → List ℕ → Bool
 is_global_name program name =
     not (is_some (declaration program.builtins name)) && not (is_library_name program name)
 
--- whether an expression may stand for this: a declared builtin by its path, or, if it is a name, a library by its name,
--- a local, or a global that is neither; what stands for nothing is no name
+-- whether an expression may stand for this: a declared builtin by its path, or, if it is a name, a
+-- library by its name, a local, or a global that is neither; what stands for nothing is no name
 abbrev pub may_mean : Program → ExprKind → Option Use → Bool
 may_mean program kind None = not (is_some (name_of kind))
 may_mean program kind (Some (UseBuiltin path)) =
@@ -89,20 +89,22 @@ abbrev pub Captures : ReadModule → Body → (captured : List ℕ) → Type 0
 Captures reading body captured = (local : ℕ)
     → is_among local captured ≡ (uses reading body local && not (declares reading body local))
 
--- a node of a module is read well: an expression stands for what it may mean, and a body has its captured locals
+-- a node of a module is read well: an expression stands for what it may mean, and a body has its
+-- captured locals
 abbrev pub IsReadWell : Program → ReadModule → SyntaxNode → Type 0
 IsReadWell program reading (AnExpr (the_expr id span kind)) = may_mean program kind (reading.use_of id) ≡ true
 IsReadWell program reading (ABody (the_body id has_self generics params vararg result code span)) =
     Captures reading (the_body id has_self generics params vararg result code span) (reading.captured id)
 IsReadWell program reading (ABind bind) = ⊤
 
--- a module is read over the builtins of a program: each node is, and each declaration is that of a local of its own
+-- a module is read over the builtins of a program: each node is, and each declaration is that of a
+-- local of its own
 pub record IsRead (program : Program) (reading : ReadModule) : Type 0 where
   pub nodes : AllByRecursion (IsReadWell program reading) (of_block reading.block)
   pub locals : are_distinct (filter_map (declared_by reading) (of_block reading.block)) ≡ true
 
--- a read folder: homes are distinct and not 0, requires mean modules of the list and form no cycle, and each module is
--- read
+-- a read folder: homes are distinct and not 0, requires mean modules of the list and form no cycle,
+-- and each module is read
 pub record IsReadFolder (program : Program) : Type 0 where
   pub homes : are_distinct (0 ∷ map (λ reading. reading.home) program.modules) ≡ true
   pub listed : (at other : ℕ) → Requires program at other → other < length program.modules

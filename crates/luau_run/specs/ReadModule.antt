@@ -3,14 +3,16 @@ use Rattle.std.specs.Prelude.{ℕ, List, Option}
 use Rattle.luau_tree.specs.Tree.{Block}
 use Rattle.luau_run.specs.ValueSet.{ValueSet}
 
--- what a name, or a path of two names, stands for: a local by its number, a builtin by its path, a library, or a global
+-- what a name, or a path of two names, stands for: a local by its number, a builtin by its path, a
+-- library, or a global
 pub data Use : Type 0 where
   UseLocal : (local : ℕ) → Use
   UseBuiltin : (path : List ℕ) → Use
   UseLibrary : Use
   UseGlobal : Use
 
--- a module, with what was found out of its names. Expressions, bodies and locals are meant by their numbers
+-- a module, with what was found out of its names. Expressions, bodies and locals are meant by their
+-- numbers
 pub record ReadModule : Type 0 where
   pub home : ℕ
   pub block : Block

@@ -7,8 +7,9 @@ use Rattle.luau_values.specs.Value.{Value}
 use Rattle.luau_values.specs.Heap.{Heap}
 use Rattle.luau_run.specs.ValueSet.{ValueSet, everything, nothing, set_or, all_in}
 
--- what the arguments and the results of a builtin are in. `rest` speaks of the arguments past the parameters, which are
--- free without it; `more` of the results past the declared ones, of which there are none without it
+-- what the arguments and the results of a builtin are in. `rest` speaks of the arguments past the
+-- parameters, which are free without it; `more` of the results past the declared ones, of which
+-- there are none without it
 pub record Signature : Type 0 where
   pub params : List ValueSet
   pub rest : Option ValueSet

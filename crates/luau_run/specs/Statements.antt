@@ -48,7 +48,8 @@ targets layer frame (more_exprs e rest) = do
   ts ← targets layer frame rest
   give (t ∷ ts)
 
--- a write by a key that is no string: a frozen table and what can't be written fail; else it is asked whether it fails
+-- a write by a key that is no string: a frozen table and what can't be written fail; else it is
+-- asked whether it fails
 abbrev pub set_other : Value → Part (Unit {0})
 set_other (Tab address) = do
   store ← look
@@ -84,7 +85,8 @@ read_from program frame (ElementTarget base key) = element program key base
 abbrev pub place_of : Expr → ℕ
 place_of (the_expr id span kind) = id
 
--- a compound assignment: the target's place, its base and key, the read, the value, the operation, the write
+-- a compound assignment: the target's place, its base and key, the read, the value, the operation,
+-- the write
 abbrev pub compound : Program → Layer → Frame → Expr → BinOp → Expr → Part Ending
 compound program layer frame at op e = do
   log (Reach frame.activation frame.module_at (ExprPlace (record { 0 = place_of at })))
@@ -121,8 +123,8 @@ is_number_sort _ = false
 abbrev pub is_sure_bound : Value → Bool
 is_sure_bound v = is_number_sort (sort v)
 
--- a numeric `for` begins: a bound that is nil, a boolean, a function or a table fails; one that is a string or
--- something else may fail
+-- a numeric `for` begins: a bound that is nil, a boolean, a function or a table fails; one that is
+-- a string or something else may fail
 abbrev pub begin_for : List Value → Part (Unit {0})
 begin_for bounds =
     if list_any is_wrong bounds then fail

@@ -1,5 +1,6 @@
--- The syntax nodes of a module: the expressions, function bodies and declarations of locals that stand in a block, at
--- whatever depth. Types have none, and neither have type functions, which are not run.
+-- The syntax nodes of a module: the expressions, function bodies and declarations of locals that
+-- stand in a block, at whatever depth. Types have none, and neither have type functions, which are
+-- not run.
 use Rattle.std.specs.Prelude.{List, [], ◌∷◌, ◌++◌}
 use Rattle.luau_tree.specs.Tree.{Block, no_stats, more_stats, Stat, the_stat, StatKind, Assign, Compound, CallStat, Do, While, Repeat, If, NumFor, GenFor, FunctionStat, LocalFunction, Local, TypeAlias, TypeFunction, Return, Break, Continue, Arms, no_arms, more_arms, MaybeBlock, no_block, a_block, Expr, the_expr, Exprs, no_exprs, more_exprs, MaybeExpr, no_expr, an_expr, ExprKind, NilExpr, TrueExpr, FalseExpr, NumberExpr, StrExpr, Vararg, FunctionExpr, NameExpr, Index, At, Call, Method, Paren, Unary, Binary, IfElse, TableExpr, Interp, Assert, Choices, no_choices, more_choices, Item, Field, Keyed, Plain, Items, no_items, more_items, Body, the_body, Bind, Binds, no_binds, more_binds}
 

@@ -25,7 +25,8 @@ abbrev pub set_or : ValueSet → Option ValueSet → ValueSet
 set_or set None = set
 set_or set (Some s) = s
 
--- whether each value is in its set, where one that isn't given is nil, and each further value is in `further`
+-- whether each value is in its set, where one that isn't given is nil, and each further value is in
+-- `further`
 abbrev pub all_in : Heap → List ValueSet → ValueSet → List Value → Bool
 all_in heap [] further [] = true
 all_in heap [] further (v ∷ values) = further heap v && all_in heap [] further values

@@ -1,4 +1,5 @@
--- Worked runs: small programs whose runs the laws of this crate compute. Nothing here has to be believed.
+-- Worked runs: small programs whose runs the laws of this crate compute. Nothing here has to be
+-- believed.
 pub mod Builders
 pub mod Outcome
 pub mod CallOfAbs

@@ -29,7 +29,8 @@ abbrev pub abs_of : List Expr → Program
 abs_of args = one_module
     (locals (alone 0) (e 0 (table []) ∷ []) ∷ calling 1 (name 2) args ∷ []) ((2, UseBuiltin (codes "math.abs")) ∷ []) []
 
--- `local o = pcall()` and a statement, which may use o as its expression 10 and a local of its own as 11
+-- `local o = pcall()` and a statement, which may use o as its expression 10 and a local of its own
+-- as 11
 abbrev pub other_then : StatKind → Program
 other_then kind = one_module
     (locals (alone 0) (e 0 (call_of (name 1) []) ∷ []) ∷ kind ∷ [])

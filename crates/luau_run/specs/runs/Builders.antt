@@ -1,4 +1,5 @@
--- What worked runs are built of: declarations, syntax without spans, and modules with the uses of their names.
+-- What worked runs are built of: declarations, syntax without spans, and modules with the uses of
+-- their names.
 use Rattle.std.specs.Prelude.{ℕ, ◌==◌, false, true, List, [], ◌∷◌, Option, Some, None, codes}
 use Rattle.std.specs.Option.{option_map}
 use Rattle.std.specs.List.{find}
@@ -135,7 +136,8 @@ module_of home kinds uses captured = record {
   required = λ id. None;
 }
 
--- modules over three builtins, of which two make libraries: `math` has the first table, `table` the second
+-- modules over three builtins, of which two make libraries: `math` has the first table, `table` the
+-- second
 abbrev pub over : List ReadModule → Program
 over modules = record { modules = modules; builtins = abs ∷ pcall ∷ freeze ∷ [] }
 

@@ -37,7 +37,8 @@ over_table = one_module
     ∷ returning (name 4 ∷ []) ∷ [])
     ((2, UseLocal 0) ∷ (3, UseLocal 2) ∷ (4, UseLocal 0) ∷ []) []
 
--- `local x`, `local function f(s, c) if c then return nil end return 1, s end`, `for k, v in f, false do x = v end`, `return x`
+-- `local x`, `local function f(s, c) if c then return nil end return 1, s end`, `for k, v in f,
+-- false do x = v end`, `return x`
 abbrev pub over_function : Program
 over_function = one_module
     (locals (alone 0) []
@@ -52,7 +53,8 @@ over_builtin = one_module
     (GenFor (alone 0) (exprs_of (name 0 ∷ [])) (block_of (returning (name 1 ∷ []) ∷ [])) ∷ [])
     ((0, UseBuiltin (codes "pcall")) ∷ (1, UseLocal 0) ∷ []) []
 
--- `local x`, `for i = 1, 1 do local j = i local function get() return j end if x then else x = get end end`, `return x()`
+-- `local x`, `for i = 1, 1 do local j = i local function get() return j end if x then else x = get
+-- end end`, `return x()`
 abbrev pub fresh_cells : Program
 fresh_cells = one_module
     (locals (alone 0) []

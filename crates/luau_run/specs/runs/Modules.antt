@@ -75,7 +75,8 @@ element_of_t = e 9 (At (name 10) (e 11 num))
 abbrev pub over_t : StatKind
 over_t = GenFor (alone 1) (exprs_of (name 10 ∷ [])) no_stats
 
--- statements that fail for certain where t is a frozen table, nil, a string or a number, and so ask for nothing
+-- statements that fail for certain where t is a frozen table, nil, a string or a number, and so ask
+-- for nothing
 abbrev pub failing : List Program
 failing =
     one_module (calling 0 (library 1 (codes "math")) [] ∷ []) ((1, UseLibrary) ∷ []) []

@@ -1,5 +1,6 @@
-//! Runs of acts that are computed: what a builtin and a value of another kind may do, and which answers don't fit. The
-//! first table that these modules make has the address 2, behind those of the libraries `math` and `table`.
+//! Runs of acts that are computed: what a builtin and a value of another kind may do, and which
+//! answers don't fit. The first table that these modules make has the address 2, behind those of
+//! the libraries `math` and `table`.
 
 ghost use Rattle.std.specs.Prelude.{◌≡◌, [], ◌∷◌, Some, true, codes};
 ghost use Rattle.luau_values.specs.Value.{Nil, Truth, Num, Str, Tab, Lit, Builtin, Other};
@@ -35,7 +36,8 @@ pub fn acts_that_do_not_fit()
     ensures no_function { ends results_of_pcall 50 (Does (Calls (Tab 0) []) ∷ Done [] ∷ []) ≡ Unfinished }
 {}
 
-/// What a quiet builtin may do: it makes tables and fills those. What its declaration says of arguments and results.
+/// What a quiet builtin may do: it makes tables and fills those. What its declaration says of
+/// arguments and results.
 pub fn quiet_and_declared()
     ensures makes { ends (abs_of (e 3 num ∷ [])) 50 (Does Make ∷ Does (Write 3 (codes "p") (Tab 2)) ∷ Done (Num (codes "1") ∷ []) ∷ []) ≡ Normal }
     ensures writes_no_other { ends (abs_of (e 3 num ∷ [])) 50 (Does (Write 2 (codes "p") Nil) ∷ Done (Num (codes "1") ∷ []) ∷ []) ≡ Unfinished }

@@ -10,8 +10,9 @@ ghost use Rattle.luau_run.specs.Run.{trace};
 ghost use Rattle.luau_run.specs.runs.Builders.{e};
 ghost use Rattle.luau_run.specs.runs.Calls.{method_called, function_on_field, function_on_method, expanding, not_expanding, nil_type, swapped, compound_field, element_written, global_written, returned_from_do, second_arm, types_passed, required_twice};
 
-/// What calls give: a method has its base as its first argument, `...` has the arguments past the parameters, and a call
-/// gives all of its values where it stands last and alone, and one elsewhere.
+/// What calls give: a method has its base as its first argument, `...` has the arguments past the
+/// parameters, and a call gives all of its values where it stands last and alone, and one
+/// elsewhere.
 pub fn calls_that_give()
     ensures method { gives method_called 50 [] ≡ Some (Num (codes "1") ∷ Str (codes "s") ∷ []) }
     ensures on_field { gives function_on_field 50 [] ≡ Some (Str (codes "s") ∷ []) }

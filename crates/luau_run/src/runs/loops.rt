@@ -1,5 +1,5 @@
-//! Runs of loops that are computed: what a turn does and takes, what `break` and `continue` do, what an iteration hands
-//! over, and that each turn has cells of its own.
+//! Runs of loops that are computed: what a turn does and takes, what `break` and `continue` do,
+//! what an iteration hands over, and that each turn has cells of its own.
 
 ghost use Rattle.std.specs.Prelude.{◌≡◌, [], ◌∷◌, Some, None, false, true, codes};
 ghost use Rattle.luau_values.specs.Value.{Truth, Num, Str};
@@ -25,8 +25,8 @@ pub fn loops_that_turn()
     ensures cells { gives fresh_cells 50 (Turn (Num (codes "1") ∷ []) ∷ Turn (Num (codes "2") ∷ []) ∷ Stop ∷ []) ≡ Some (Num (codes "1") ∷ []) }
 {}
 
-/// The bounds of a numeric `for`, which are evaluated in their order: one that is nil fails, a string may fail, and
-/// numbers ask for nothing.
+/// The bounds of a numeric `for`, which are evaluated in their order: one that is nil fails, a
+/// string may fail, and numbers ask for nothing.
 pub fn bounds_of_for()
     ensures nil_bound { ends (counting_from NilExpr) 50 [] ≡ Failure }
     ensures string_bound { ends (counting_from str) 50 (Says true ∷ Stop ∷ []) ≡ Normal }
@@ -36,7 +36,8 @@ pub fn bounds_of_for()
     ensures no_such_turn { ends (counting_by num) 50 (Turn (Str (codes "s") ∷ []) ∷ []) ≡ Unfinished }
 {}
 
-/// How many steps loops take: each turn takes one, the last try too, and in an iteration over a function so does the call.
+/// How many steps loops take: each turn takes one, the last try too, and in an iteration over a
+/// function so does the call.
 pub fn steps_of_loops()
     ensures repeats { one_more repeated 4 [] ≡ (Unfinished, Normal) }
     ensures whiles { one_more two_turns 15 [] ≡ (Unfinished, Return) }

@@ -23,8 +23,8 @@ pub fn modules_that_return()
     ensures other_module { gives required 50 [] ≡ Some (Str (codes "s") ∷ []) }
 {}
 
-/// A name that no library declares, read straight off the library's name: in every form it is any value, and the tape says
-/// which. Read off a local that holds the library's table it is nil.
+/// A name that no library declares, read straight off the library's name: in every form it is any
+/// value, and the tape says which. Read off a local that holds the library's table it is nil.
 pub fn names_off_a_library()
     ensures field { gives off_library 50 (One (Num (codes "3")) ∷ []) ≡ Some (Num (codes "3") ∷ []) }
     ensures key { gives element_off_library 50 (One (Num (codes "3")) ∷ []) ≡ Some (Num (codes "3") ∷ []) }
@@ -37,7 +37,8 @@ pub fn names_off_a_library()
     ensures local { ends compound_off_local 50 [] ≡ Failure }
 {}
 
-/// A failure that `pcall` catches: the function's activation reaches its call and isn't left; the module's own is.
+/// A failure that `pcall` catches: the function's activation reaches its call and isn't left; the
+/// module's own is.
 pub fn failure_that_is_caught()
     ensures { trace caught_failure 0 50 (Does (Catches (Lit 1 0 []) []) ∷ Done [] ∷ [])
         ≡ reached 0 ∷ reached 1 ∷ reached 2
@@ -50,7 +51,8 @@ pub fn modules_that_fail()
     ensures { map (λ program. ends program 50 []) failing ≡ map (λ program. Failure) failing }
 {}
 
-/// A parameter's place is reached, after the call's arguments and before the body, where the argument is in its annotation.
+/// A parameter's place is reached, after the call's arguments and before the body, where the
+/// argument is in its annotation.
 pub fn parameter_that_is_reached()
     ensures number { trace (annotated_call (NumberExpr (codes "1"))) 0 50 []
         ≡ reached 0 ∷ reached 1 ∷ reached 2

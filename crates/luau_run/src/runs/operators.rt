@@ -1,4 +1,5 @@
-//! Runs of operators and of other expressions that are computed: what fails, what is asked for, and what is known.
+//! Runs of operators and of other expressions that are computed: what fails, what is asked for, and
+//! what is known.
 
 ghost use Rattle.std.specs.Prelude.{◌≡◌, [], ◌∷◌, Some, true, false, codes, map};
 ghost use Rattle.luau_values.specs.Value.{Nil, Truth, Num, Str, Builtin, Other};
@@ -26,8 +27,8 @@ pub fn arithmetic_on_kinds()
     ensures joined { gives (applied Concat num str) 50 (One (Str (codes "1s")) ∷ []) ≡ Some (Str (codes "1s") ∷ []) }
 {}
 
-/// Orders and equality: two strings have an order, kinds have none; the tape says whether two numbers, or two closures of
-/// one literal, are equal.
+/// Orders and equality: two strings have an order, kinds have none; the tape says whether two
+/// numbers, or two closures of one literal, are equal.
 pub fn comparisons_of_kinds()
     ensures strings_ordered { map (λ op. gives (applied op str str) 50 (Says true ∷ [])) (Less ∷ Greater ∷ LessEqual ∷ GreaterEqual ∷ [])
         ≡ map (λ op. Some (Truth true ∷ [])) (Less ∷ Greater ∷ LessEqual ∷ GreaterEqual ∷ []) }
