@@ -1,7 +1,8 @@
 -- What calls of checked builtins do, and what answers that don't fit do.
 use Rattle.std.proofs.Common.{◌≡◌, ℕ, true, false, List, [], ◌∷◌, Option, Some, None, refl, sym, subst}
 use Rattle.luau_values.specs.Value.{Value}
-use Rattle.luau_run.specs.Program.{Signature, declaration, takes, Program}
+use Rattle.luau_run.specs.Signature.{Signature, declaration, takes}
+use Rattle.luau_run.specs.Program.{Program}
 use Rattle.luau_run.specs.Machine.{Answer, State, Failed, Spent, Reply, Unfit, asked, ask, ◌>>=◌, fail, look}
 use Rattle.luau_run.specs.Layer.{Layer}
 use Rattle.luau_run.specs.Calls.{declared_call, call_builtin}

@@ -11,7 +11,7 @@ use Rattle.luau_run.specs.Loops.{turns}
 use Rattle.luau_run.specs.Statements.{stat}
 use Rattle.luau_run.specs.Run.{layer_of, start, end_of}
 use Rattle.luau_run.specs.Certain.{StaysAt, Certain}
-use Rattle.luau_run.specs.Examples.{calling_abs, at_literal}
+use Rattle.luau_run.specs.runs.CallOfAbs.{calling_abs, at_literal}
 
 abbrev wrong : Program
 wrong = calling_abs (StrExpr (codes "hi"))

@@ -4,7 +4,9 @@ use Rattle.std.specs.Str.{bytes_eq}
 use Rattle.luau_values.specs.Value.{Value, Nil, Truth, Num, Str, Tab, Lit, Builtin, Other}
 use Rattle.luau_values.proofs.Public.{later_refl}
 use Rattle.luau_tree.specs.Tree.{Block, no_stats, more_stats, Body, the_body, the_bind, Binds, no_binds, more_binds}
-use Rattle.luau_run.specs.Program.{Signature, declaration, ReadModule, Program}
+use Rattle.luau_run.specs.Signature.{Signature, declaration}
+use Rattle.luau_run.specs.ReadModule.{ReadModule}
+use Rattle.luau_run.specs.Program.{Program}
 use Rattle.luau_run.specs.Machine.{Act, Write, Freeze, Make, Calls, Catches, Closure, Part}
 use Rattle.luau_run.specs.Answers.{Aim, ForResults, Freedom, Free, Move, Acts, Ends}
 use Rattle.luau_run.specs.Layer.{Frame, Ending, Falls, Breaks, Continues, Returns, Layer, first}

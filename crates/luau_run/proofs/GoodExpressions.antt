@@ -7,13 +7,14 @@ use Rattle.luau_tree.specs.Tree.{Expr, the_expr, Exprs, no_exprs, more_exprs, Ex
 use Rattle.luau_tree.specs.Tree as plain
 use Rattle.luau_tree.specs.declared.names.BinOp.{BinOp}
 use Rattle.luau_tree.specs.declared.names.BinOp.TheVariants.{Or, And, Less, Greater, LessEqual, GreaterEqual, NotEqual, Equal, Concat, Add, Sub, Mul, Div, FloorDiv, Mod, Pow}
-use Rattle.luau_run.specs.Program.{Use, UseLocal, UseBuiltin, UseLibrary, UseGlobal, Program}
+use Rattle.luau_run.specs.ReadModule.{Use, UseLocal, UseBuiltin, UseLibrary, UseGlobal}
+use Rattle.luau_run.specs.Program.{Program}
 use Rattle.luau_run.specs.Machine.{Event, State, Part, ◌>>=◌, step, step_of, log, go_on}
 use Rattle.luau_run.specs.Layer.{Frame, Layer}
 use Rattle.luau_run.specs.Operators.{is_true, binary}
-use Rattle.luau_run.specs.Expressions.{value, all_values, reach, cell_or_spend, local_cell, cell_value, local_value, table_or_spend, named, captured_cells, make_closure, is_library, either_value, binary_rest, chosen, keyed_field, item_fields, one, static_require, call_expr, each_value, evaluate, evaluate_or_builtin, values}
+use Rattle.luau_run.specs.Expressions.{value, all_values, reach, cell_or_spend, local_cell, cell_value, local_value, table_or_spend, named, captured_cells, make_closure, base_of, either_value, binary_rest, chosen, keyed_field, item_fields, one, static_require, call_expr, each_value, evaluate, evaluate_or_builtin, values}
 use Rattle.luau_run.proofs.Good.{Good, good_then, good_taken, good_step, good_log, HasTaken, left, good_ask, good_change, good_any, good_give, good_look, good_if, good_spend}
-use Rattle.luau_run.proofs.GoodOperators.{good_table, good_binary, good_unary, good_named_field, good_element}
+use Rattle.luau_run.proofs.GoodOperators.{good_table, good_binary, good_unary, good_any_value, good_named_field, good_element}
 use Rattle.luau_run.proofs.GoodLayer.{GoodLayer, good_step_then}
 use Rattle.luau_run.proofs.GoodCalls.{good_call}
 
@@ -40,7 +41,7 @@ good_named : (depth : ℕ) (program : Program) (frame : Frame) (name : List ℕ)
 good_named depth program frame name (Some (UseLocal local)) = good_local_value depth frame local
 good_named depth program frame name (Some (UseBuiltin path)) = good_give depth (Some frame.activation) _
 good_named depth program frame name (Some UseLibrary) = good_table_or_spend depth (Some frame.activation) _
-good_named depth program frame name (Some UseGlobal) = good_then depth (Some frame.activation) _ _ _ _ (good_look depth (Some frame.activation)) (λ store. good_ask depth (Some frame.activation) _)
+good_named depth program frame name (Some UseGlobal) = good_any_value depth (Some frame.activation) program
 good_named depth program frame name None = good_spend depth (Some frame.activation) Value
 
 good_cells : (depth : ℕ) (frame : Frame) (locals : List ℕ) → Good depth (Some frame.activation) (captured_cells frame locals) (captured_cells frame locals)
@@ -77,6 +78,9 @@ reach_takes frame id s = logged_taken _ s s.steps refl
 module _ (depth : ℕ) (l m : Layer) (h : GoodLayer depth l m) where
   pub good_value : (frame : Frame) (e : Expr) → Good depth (Some frame.activation) (value l frame e) (value m frame e)
   good_value frame e = good_then depth (Some frame.activation) _ _ _ _ (h.values frame e) (λ vs. good_give depth (Some frame.activation) _)
+
+  pub good_base : (frame : Frame) (e : Expr) → Good depth (Some frame.activation) (base_of l frame e) (base_of m frame e)
+  good_base frame e = good_then depth (Some frame.activation) _ _ _ _ (good_value frame e) (λ v. good_give depth (Some frame.activation) _)
 
   pub good_all : (frame : Frame) (es : Exprs) → Good depth (Some frame.activation) (all_values l frame es) (all_values m frame es)
   good_all frame no_exprs = good_give depth (Some frame.activation) _
@@ -148,14 +152,14 @@ module _ (depth : ℕ) (l m : Layer) (h : GoodLayer depth l m) where
   good_evaluate program frame id Vararg = good_give depth (Some frame.activation) _
   good_evaluate program frame id (FunctionExpr code) = good_one frame _ _ (good_closure depth frame code)
   good_evaluate program frame id (NameExpr name) = good_one frame _ _ (good_named depth program frame name _)
-  good_evaluate program frame id (Index base name) = good_one frame _ _ (good_then depth (Some frame.activation) _ _ _ _ (good_value frame base) (λ b.
-      good_named_field depth (Some frame.activation) program (is_library frame base) name b))
-  good_evaluate program frame id (At base key) = good_one frame _ _ (good_then depth (Some frame.activation) _ _ _ _ (good_value frame base) (λ b. good_then depth (Some frame.activation) _ _ _ _ (good_value frame key) (λ k.
-      good_element depth (Some frame.activation) program (is_library frame base) k b)))
+  good_evaluate program frame id (Index base name) = good_one frame _ _ (good_then depth (Some frame.activation) _ _ _ _ (good_base frame base) (λ b.
+      good_named_field depth (Some frame.activation) program name b))
+  good_evaluate program frame id (At base key) = good_one frame _ _ (good_then depth (Some frame.activation) _ _ _ _ (good_base frame base) (λ b. good_then depth (Some frame.activation) _ _ _ _ (good_value frame key) (λ k.
+      good_element depth (Some frame.activation) program k b)))
   good_evaluate program frame id (Call callee args) = good_call_expr frame (frame.reading.required id) callee args
-  good_evaluate program frame id (Method base name name_span args) = good_then depth (Some frame.activation) _ _ _ _ (good_value frame base) (λ b. good_then depth (Some frame.activation) _ _ _ _ (good_all frame args) (λ vs.
-      good_then depth (Some frame.activation) _ _ _ _ (good_named_field depth (Some frame.activation) program (is_library frame base) name b) (λ f.
-      good_step_then depth (Some frame.activation) _ _ (good_call depth l m h (Some frame.activation) f (b ∷ vs)))))
+  good_evaluate program frame id (Method base name name_span args) = good_then depth (Some frame.activation) _ _ _ _ (good_base frame base) (λ b. good_then depth (Some frame.activation) _ _ _ _ (good_all frame args) (λ vs.
+      good_then depth (Some frame.activation) _ _ _ _ (good_named_field depth (Some frame.activation) program name b) (λ f.
+      good_step_then depth (Some frame.activation) _ _ (good_call depth l m h (Some frame.activation) f (b.value ∷ vs)))))
   good_evaluate program frame id (Paren e) = good_one frame _ _ (good_value frame e)
   good_evaluate program frame id (Unary op e) = good_one frame _ _ (good_then depth (Some frame.activation) _ _ _ _ (good_value frame e) (λ v. good_unary depth (Some frame.activation) program op v))
   good_evaluate program frame id (Binary op left right) = good_one frame _ _ (good_then depth (Some frame.activation) _ _ _ _ (good_value frame left) (λ v. good_rest program frame op v right))

@@ -1,5 +1,5 @@
 -- The operators are good parts.
-use Rattle.std.proofs.Common.{ℕ, Bool, List, Option, refl}
+use Rattle.std.proofs.Common.{ℕ, ◌&&◌, List, Option, refl}
 use Rattle.luau_values.specs.Value.{Value, Nil, Truth, Num, Str, Tab, Lit, Builtin, Other, is_nil}
 use Rattle.luau_values.specs.Heap.{Field}
 use Rattle.luau_values.proofs.Public.{later_refl, table_later, freeze_later}
@@ -8,9 +8,8 @@ use Rattle.luau_tree.specs.declared.names.UnOp.TheVariants.{Minus, Not, Length}
 use Rattle.luau_tree.specs.declared.names.BinOp.{BinOp}
 use Rattle.luau_tree.specs.declared.names.BinOp.TheVariants.{Or, And, Less, Greater, LessEqual, GreaterEqual, NotEqual, Equal, Concat, Add, Sub, Mul, Div, FloorDiv, Mod, Pow}
 use Rattle.luau_run.specs.Program.{Program}
-use Rattle.luau_run.specs.Machine.{◌>>=◌, look, ask, make_table, freeze_table, new_cell, set_cell, bind_local}
-use Rattle.luau_run.specs.Answers.{a_value}
-use Rattle.luau_run.specs.Operators.{Sort, NumberSort, StringSort, OtherSort, WrongSort, sort, anything, arithmetic_of, joined, ordered, equal, binary, negated, length_of, unary, field, or_any, named_field, element, set_field}
+use Rattle.luau_run.specs.Machine.{make_table, freeze_table, new_cell, set_cell, bind_local}
+use Rattle.luau_run.specs.Operators.{Sort, NumberSort, StringSort, OtherSort, WrongSort, sort, anything, arithmetic_of, joined, ordered, equal, binary, negated, length_of, unary, field, any_value, Base, named_field, other_element, element, set_field}
 use Rattle.luau_run.proofs.Good.{Good, good_give, good_fail, good_then, good_look, good_ask, good_change, good_write, good_if}
 
 pub good_anything : (d : ℕ) (runs : Option ℕ) (program : Program) → Good d runs (anything program) (anything program)
@@ -203,73 +202,32 @@ good_field d runs program name (Lit h f c) = good_fail d runs Value
 good_field d runs program name (Builtin p) = good_fail d runs Value
 good_field d runs program name (Other k) = good_anything d runs program
 
-asked_value : (d : ℕ) (runs : Option ℕ) (program : Program) → Good d runs (look >>= (λ store. ask (a_value program store))) (look >>= (λ store. ask (a_value program store)))
-asked_value d runs program = good_then d runs _ _ _ _ (good_look d runs) (λ store. good_ask d runs _)
+pub good_any_value : (d : ℕ) (runs : Option ℕ) (program : Program) → Good d runs (any_value program) (any_value program)
+good_any_value d runs program = good_then d runs _ _ _ _ (good_look d runs) (λ store. good_ask d runs _)
 
-pub good_or_any : (d : ℕ) (runs : Option ℕ) (program : Program) (a : Value) → Good d runs (or_any program a) (or_any program a)
-good_or_any d runs program a = good_if d runs (is_nil a) _ _ _ _ (asked_value d runs program) (good_give d runs _)
+pub good_named_field : (d : ℕ) (runs : Option ℕ) (program : Program) (name : List ℕ) (base : Base) → Good d runs (named_field program name base) (named_field program name base)
+good_named_field d runs program name base = good_then d runs _ _ _ _ (good_field d runs program name base.value)
+    (λ found. good_if d runs (base.is_library && is_nil found) _ _ _ _ (good_any_value d runs program) (good_give d runs found))
 
-pub good_named_field : (d : ℕ) (runs : Option ℕ) (program : Program) (off : Bool) (name : List ℕ) (a : Value) → Good d runs (named_field program off name a) (named_field program off name a)
-good_named_field d runs program off name a = good_then d runs _ _ _ _ (good_field d runs program name a) (λ found. good_if d runs off _ _ _ _ (good_or_any d runs program found) (good_give d runs found))
+good_other_element : (d : ℕ) (runs : Option ℕ) (program : Program) (a : Value) → Good d runs (other_element program a) (other_element program a)
+good_other_element d runs program Nil = good_fail d runs Value
+good_other_element d runs program (Truth t) = good_fail d runs Value
+good_other_element d runs program (Num n) = good_fail d runs Value
+good_other_element d runs program (Str s) = good_any_value d runs program
+good_other_element d runs program (Tab a) = good_any_value d runs program
+good_other_element d runs program (Lit h f c) = good_fail d runs Value
+good_other_element d runs program (Builtin p) = good_fail d runs Value
+good_other_element d runs program (Other k) = good_anything d runs program
 
-pub good_element : (d : ℕ) (runs : Option ℕ) (program : Program) (off : Bool) (key a : Value) → Good d runs (element program off key a) (element program off key a)
-good_element d runs program off Nil Nil = good_fail d runs Value
-good_element d runs program off Nil (Truth t) = good_fail d runs Value
-good_element d runs program off Nil (Num n) = good_fail d runs Value
-good_element d runs program off Nil (Str s) = asked_value d runs program
-good_element d runs program off Nil (Tab a) = asked_value d runs program
-good_element d runs program off Nil (Lit h f c) = good_fail d runs Value
-good_element d runs program off Nil (Builtin p) = good_fail d runs Value
-good_element d runs program off Nil (Other k) = good_anything d runs program
-good_element d runs program off (Truth t2) Nil = good_fail d runs Value
-good_element d runs program off (Truth t2) (Truth t) = good_fail d runs Value
-good_element d runs program off (Truth t2) (Num n) = good_fail d runs Value
-good_element d runs program off (Truth t2) (Str s) = asked_value d runs program
-good_element d runs program off (Truth t2) (Tab a) = asked_value d runs program
-good_element d runs program off (Truth t2) (Lit h f c) = good_fail d runs Value
-good_element d runs program off (Truth t2) (Builtin p) = good_fail d runs Value
-good_element d runs program off (Truth t2) (Other k) = good_anything d runs program
-good_element d runs program off (Num n2) Nil = good_fail d runs Value
-good_element d runs program off (Num n2) (Truth t) = good_fail d runs Value
-good_element d runs program off (Num n2) (Num n) = good_fail d runs Value
-good_element d runs program off (Num n2) (Str s) = asked_value d runs program
-good_element d runs program off (Num n2) (Tab a) = asked_value d runs program
-good_element d runs program off (Num n2) (Lit h f c) = good_fail d runs Value
-good_element d runs program off (Num n2) (Builtin p) = good_fail d runs Value
-good_element d runs program off (Num n2) (Other k) = good_anything d runs program
-good_element d runs program off (Str s2) a = good_named_field d runs program off s2 a
-good_element d runs program off (Tab a2) Nil = good_fail d runs Value
-good_element d runs program off (Tab a2) (Truth t) = good_fail d runs Value
-good_element d runs program off (Tab a2) (Num n) = good_fail d runs Value
-good_element d runs program off (Tab a2) (Str s) = asked_value d runs program
-good_element d runs program off (Tab a2) (Tab a) = asked_value d runs program
-good_element d runs program off (Tab a2) (Lit h f c) = good_fail d runs Value
-good_element d runs program off (Tab a2) (Builtin p) = good_fail d runs Value
-good_element d runs program off (Tab a2) (Other k) = good_anything d runs program
-good_element d runs program off (Lit h2 f2 c2) Nil = good_fail d runs Value
-good_element d runs program off (Lit h2 f2 c2) (Truth t) = good_fail d runs Value
-good_element d runs program off (Lit h2 f2 c2) (Num n) = good_fail d runs Value
-good_element d runs program off (Lit h2 f2 c2) (Str s) = asked_value d runs program
-good_element d runs program off (Lit h2 f2 c2) (Tab a) = asked_value d runs program
-good_element d runs program off (Lit h2 f2 c2) (Lit h f c) = good_fail d runs Value
-good_element d runs program off (Lit h2 f2 c2) (Builtin p) = good_fail d runs Value
-good_element d runs program off (Lit h2 f2 c2) (Other k) = good_anything d runs program
-good_element d runs program off (Builtin p2) Nil = good_fail d runs Value
-good_element d runs program off (Builtin p2) (Truth t) = good_fail d runs Value
-good_element d runs program off (Builtin p2) (Num n) = good_fail d runs Value
-good_element d runs program off (Builtin p2) (Str s) = asked_value d runs program
-good_element d runs program off (Builtin p2) (Tab a) = asked_value d runs program
-good_element d runs program off (Builtin p2) (Lit h f c) = good_fail d runs Value
-good_element d runs program off (Builtin p2) (Builtin p) = good_fail d runs Value
-good_element d runs program off (Builtin p2) (Other k) = good_anything d runs program
-good_element d runs program off (Other k2) Nil = good_fail d runs Value
-good_element d runs program off (Other k2) (Truth t) = good_fail d runs Value
-good_element d runs program off (Other k2) (Num n) = good_fail d runs Value
-good_element d runs program off (Other k2) (Str s) = asked_value d runs program
-good_element d runs program off (Other k2) (Tab a) = asked_value d runs program
-good_element d runs program off (Other k2) (Lit h f c) = good_fail d runs Value
-good_element d runs program off (Other k2) (Builtin p) = good_fail d runs Value
-good_element d runs program off (Other k2) (Other k) = good_anything d runs program
+pub good_element : (d : ℕ) (runs : Option ℕ) (program : Program) (key : Value) (base : Base) → Good d runs (element program key base) (element program key base)
+good_element d runs program Nil base = good_other_element d runs program base.value
+good_element d runs program (Truth t) base = good_other_element d runs program base.value
+good_element d runs program (Num n) base = good_other_element d runs program base.value
+good_element d runs program (Str s) base = good_named_field d runs program s base
+good_element d runs program (Tab a) base = good_other_element d runs program base.value
+good_element d runs program (Lit h f c) base = good_other_element d runs program base.value
+good_element d runs program (Builtin p) base = good_other_element d runs program base.value
+good_element d runs program (Other k) base = good_other_element d runs program base.value
 
 pub good_set_field : (d : ℕ) (runs : Option ℕ) (name : List ℕ) (written a : Value) → Good d runs (set_field name written a) (set_field name written a)
 good_set_field d runs name written Nil = good_fail d runs (Unit {0})

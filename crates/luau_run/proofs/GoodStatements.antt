@@ -10,10 +10,10 @@ use Rattle.luau_run.specs.Layer.{Frame, Ending, WhileLoop, RepeatLoop, NumLoop, 
 use Rattle.luau_run.specs.Operators.{is_true}
 use Rattle.luau_run.specs.Statements.{Target, LocalTarget, GlobalTarget, FieldTarget, ElementTarget, target, targets, set_other, set_element, write_to, write_all, read_from, compound, branches, is_wrong, is_sure_bound, begin_for, bounds_of, iterate, define, define_local, number_for, execute, stat}
 use Rattle.luau_run.proofs.Good.{Good, good_then, good_taken, good_step, step_takes, good_ask, good_give, good_look, good_if, good_log, good_spend, good_fail}
-use Rattle.luau_run.proofs.GoodOperators.{good_new_cell, good_set_cell, good_bind, good_binary, good_named_field, good_element, good_set_field}
+use Rattle.luau_run.proofs.GoodOperators.{good_new_cell, good_set_cell, good_bind, good_binary, good_any_value, good_named_field, good_element, good_set_field}
 use Rattle.luau_run.proofs.GoodLayer.{GoodLayer}
 use Rattle.luau_run.proofs.GoodCalls.{good_block}
-use Rattle.luau_run.proofs.GoodExpressions.{good_value, good_all, good_local_cell, good_local_value, good_closure}
+use Rattle.luau_run.proofs.GoodExpressions.{good_value, good_base, good_all, good_local_cell, good_local_value, good_closure}
 use Rattle.luau_run.proofs.GoodLoops.{good_declare}
 
 good_set_other : (depth : ℕ) (runs : Option ℕ) (base : Value) → Good depth runs (set_other base) (set_other base)
@@ -39,8 +39,8 @@ good_set_element depth runs (Other k) written base = good_set_other depth runs b
 good_write_to : (depth : ℕ) (frame : Frame) (t : Target) (written : Value) → Good depth (Some frame.activation) (write_to frame t written) (write_to frame t written)
 good_write_to depth frame (LocalTarget local) written = good_then depth (Some frame.activation) _ _ _ _ (good_local_cell depth frame local) (λ cell. good_set_cell depth (Some frame.activation) cell written)
 good_write_to depth frame GlobalTarget written = good_give depth (Some frame.activation) _
-good_write_to depth frame (FieldTarget off base name) written = good_set_field depth (Some frame.activation) name written base
-good_write_to depth frame (ElementTarget off base key) written = good_set_element depth (Some frame.activation) key written base
+good_write_to depth frame (FieldTarget base name) written = good_set_field depth (Some frame.activation) name written base.value
+good_write_to depth frame (ElementTarget base key) written = good_set_element depth (Some frame.activation) key written base.value
 
 good_write_all : (depth : ℕ) (frame : Frame) (ts : List Target) (values : List Value) → Good depth (Some frame.activation) (write_all frame ts values) (write_all frame ts values)
 good_write_all depth frame [] values = good_give depth (Some frame.activation) _
@@ -48,9 +48,9 @@ good_write_all depth frame (t ∷ ts) values = good_then depth (Some frame.activ
 
 good_read : (depth : ℕ) (program : Program) (frame : Frame) (t : Target) → Good depth (Some frame.activation) (read_from program frame t) (read_from program frame t)
 good_read depth program frame (LocalTarget local) = good_local_value depth frame local
-good_read depth program frame GlobalTarget = good_then depth (Some frame.activation) _ _ _ _ (good_look depth (Some frame.activation)) (λ store. good_ask depth (Some frame.activation) _)
-good_read depth program frame (FieldTarget off base name) = good_named_field depth (Some frame.activation) program off name base
-good_read depth program frame (ElementTarget off base key) = good_element depth (Some frame.activation) program off key base
+good_read depth program frame GlobalTarget = good_any_value depth (Some frame.activation) program
+good_read depth program frame (FieldTarget base name) = good_named_field depth (Some frame.activation) program name base
+good_read depth program frame (ElementTarget base key) = good_element depth (Some frame.activation) program key base
 
 good_begin : (depth : ℕ) (runs : Option ℕ) (bounds : List Value) → Good depth runs (begin_for bounds) (begin_for bounds)
 good_begin depth runs bounds = good_if depth runs (list_any is_wrong bounds) _ _ _ _ (good_fail depth runs (Unit {0}))
@@ -64,8 +64,8 @@ good_define_local depth frame (the_bind name span typ) code = good_then depth (S
 module _ (depth : ℕ) (l m : Layer) (h : GoodLayer depth l m) where
   good_target : (frame : Frame) (e : Expr) → Good depth (Some frame.activation) (target l frame e) (target m frame e)
   good_target frame (the_expr id span (NameExpr name)) = good_give depth (Some frame.activation) _
-  good_target frame (the_expr id span (Index base name)) = good_then depth (Some frame.activation) _ _ _ _ (good_value depth l m h frame base) (λ b. good_give depth (Some frame.activation) _)
-  good_target frame (the_expr id span (At base key)) = good_then depth (Some frame.activation) _ _ _ _ (good_value depth l m h frame base) (λ b. good_then depth (Some frame.activation) _ _ _ _ (good_value depth l m h frame key) (λ k. good_give depth (Some frame.activation) _))
+  good_target frame (the_expr id span (Index base name)) = good_then depth (Some frame.activation) _ _ _ _ (good_base depth l m h frame base) (λ b. good_give depth (Some frame.activation) _)
+  good_target frame (the_expr id span (At base key)) = good_then depth (Some frame.activation) _ _ _ _ (good_base depth l m h frame base) (λ b. good_then depth (Some frame.activation) _ _ _ _ (good_value depth l m h frame key) (λ k. good_give depth (Some frame.activation) _))
   good_target frame (the_expr id span NilExpr) = good_spend depth (Some frame.activation) Target
   good_target frame (the_expr id span TrueExpr) = good_spend depth (Some frame.activation) Target
   good_target frame (the_expr id span FalseExpr) = good_spend depth (Some frame.activation) Target

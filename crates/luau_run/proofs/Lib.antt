@@ -10,4 +10,6 @@ pub mod GoodStatements
 pub mod GoodLayers
 pub mod CallFacts
 pub mod QuietFacts
+pub mod FreezeFacts
 pub mod ExampleFacts
+pub mod Homes

@@ -7,7 +7,8 @@ use Rattle.luau_values.specs.Value.{Value, Nil, Truth, Num, Str, Tab, Lit, Built
 use Rattle.luau_values.specs.Heap.{Heap, is_frozen}
 use Rattle.luau_values.specs.Later.{Extends}
 use Rattle.luau_values.proofs.Public.{extends_refl, extends_table, extends_fill}
-use Rattle.luau_run.specs.Program.{Program, Signature, declaration, takes, may_give}
+use Rattle.luau_run.specs.Program.{Program}
+use Rattle.luau_run.specs.Signature.{Signature, declaration, takes, may_give}
 use Rattle.luau_run.specs.Machine.{Act, Write, Freeze, Make, Calls, Catches, Answer, One, Says, Fail, Turn, Stop, Does, Done, State, Ran, Gave, Failed, Spent, Part, Reply, Unfit, Fails, Fits, replied, asked, go_on, ◌>>=◌, give, fail, spend, look, change, ask, write_field}
 use Rattle.luau_run.specs.Answers.{Quiet, ForResults, Move, Acts, Ends, fits_if, is_open, may_write, is_there, all_there, act_fits, a_move, other_kind}
 use Rattle.luau_run.specs.Layer.{Layer, first}

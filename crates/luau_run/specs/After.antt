@@ -20,8 +20,8 @@ LeavesLast [] = ⊤
 LeavesLast (Reach activation module_at place ∷ later) = LeavesLast later
 LeavesLast (Leave activation ∷ later) = NoneOf activation later × LeavesLast later
 
--- an event is a reach of the activation that runs, or belongs to one that began in the meantime, with a number from
--- `low` on and below `high`
+-- an event is a reach of the activation that runs, or belongs to one that began in the meantime,
+-- with a number from `low` on and below `high`
 abbrev pub IsInside : (runs : Option ℕ) → (low high : ℕ) → Event → Type 0
 IsInside None low high e = (low ≤ activation_of e) × (activation_of e < high)
 IsInside (Some runs) low high (Reach activation module_at place) = (activation ≡ runs) ⊎ ((low ≤ activation) × (activation < high))
@@ -37,8 +37,9 @@ abbrev pub HasBegun : (runs : Option ℕ) → ℕ → Type 0
 HasBegun None begun = ⊤
 HasBegun (Some runs) begun = runs < begun
 
--- what a part of a run does to a state: it logs more, of the activation that runs and of new ones, each of which ends
--- at most once and then logs nothing; the heap is later; and steps and answers are only taken
+-- what a part of a run does to a state: it logs more, of the activation that runs and of new ones,
+-- each of which ends at most once and then logs nothing; the heap is later; and steps and answers
+-- are only taken
 pub record After (runs : Option ℕ) (old new : State) : Type 0 where
   pub events : List Event
   pub logged : new.trace ≡ old.trace ++ events
@@ -57,8 +58,8 @@ with_more steps answers state = record state { steps = state.steps + steps; tape
 abbrev pub Begins : List Event → List Event → Type 0
 Begins first whole = (rest : List Event) × (whole ≡ first ++ rest)
 
--- what becomes of a part of a run with more steps and answers: where it was spent, it logs the same and goes on; else
--- it ends the same
+-- what becomes of a part of a run with more steps and answers: where it was spent, it logs the same
+-- and goes on; else it ends the same
 abbrev pub GoesOn : {A : Type 0} → (steps : ℕ) → List Answer → Ran A → Ran A → Type 0
 GoesOn steps answers (Gave given state) ran = ran ≡ Gave given (with_more steps answers state)
 GoesOn steps answers (Failed state) ran = ran ≡ Failed (with_more steps answers state)

@@ -4,7 +4,8 @@ use Rattle.std.specs.List.{list_any, list_all}
 use Rattle.std.specs.Str.{bytes_eq}
 use Rattle.luau_values.specs.Value.{Value, Num, Str, Tab, Lit, Builtin}
 use Rattle.luau_values.specs.Heap.{is_frozen}
-use Rattle.luau_run.specs.Program.{Program, declaration}
+use Rattle.luau_run.specs.Program.{Program}
+use Rattle.luau_run.specs.Signature.{declaration}
 use Rattle.luau_run.specs.Machine.{Act, Write, Freeze, Make, Calls, Catches, Answer, One, Says, Fail, Turn, Stop, Does, Done, Store, Reply, Unfit, Fails, Fits}
 
 -- whether two closures captured the same cells
@@ -18,7 +19,8 @@ abbrev pub is_closure : (home function : ℕ) → List (ℕ × ℕ) → Value �
 is_closure home function cells (Lit h f c) = (home == h) && (function == f) && same_cells cells c
 is_closure home function cells _ = false
 
--- whether a value can be there by now: a table that is in the heap, a closure that was made, a builtin that is declared, and any other
+-- whether a value can be there by now: a table that is in the heap, a closure that was made, a
+-- builtin that is declared, and any other
 abbrev pub is_there : Program → Store → Value → Bool
 is_there program store (Tab address) = nat_lt address (length store.heap)
 is_there program store (Lit home function cells) = list_any (λ c. is_closure home function cells c.value) store.closures
@@ -101,8 +103,8 @@ pub data Aim : Type 0 where
   ForResults : Aim
   ForTurn : Aim
 
--- how free acts are: of a quiet builtin they only make tables and fill those that the same call made, which stand from
--- an address on
+-- how free acts are: of a quiet builtin they only make tables and fill those that the same call
+-- made, which stand from an address on
 pub data Freedom : Type 0 where
   Free : Freedom
   Quiet : (from : ℕ) → Freedom
@@ -127,7 +129,8 @@ is_function _ = false
 abbrev pub is_open : Store → ℕ → Bool
 is_open store table = nat_lt table (length store.heap) && not (is_frozen store.heap table)
 
--- whether an act fits: its tables are there and not frozen, its values are there, and it is free enough
+-- whether an act fits: its tables are there and not frozen, its values are there, and it is free
+-- enough
 abbrev pub act_fits : Program → Store → Freedom → Act → Bool
 act_fits program store freedom (Write table name value) = is_open store table && may_write freedom table && is_there program store value
 act_fits program store freedom (Freeze table) = is_open store table && may_call freedom

@@ -7,7 +7,9 @@ use Rattle.luau_values.specs.Value.{Value, Nil, Truth, Num, Str, Tab, Lit, Built
 use Rattle.luau_values.specs.Heap.{is_frozen}
 use Rattle.luau_tree.specs.Tree.{Block, no_stats, more_stats, Body, the_body, the_bind, Binds, no_binds, more_binds, Varargs, no_varargs, varargs}
 use Rattle.luau_tree.specs.declared.names.Place.TheVariants.{Param}
-use Rattle.luau_run.specs.Program.{Signature, declaration, takes, may_give, ReadModule, Program}
+use Rattle.luau_run.specs.Signature.{Signature, declaration, takes, may_give}
+use Rattle.luau_run.specs.ReadModule.{ReadModule}
+use Rattle.luau_run.specs.Program.{Program}
 use Rattle.luau_run.specs.Machine.{Reach, Act, Write, Freeze, Make, Calls, Catches, Closure, Part, ◌>>=◌, ◌>>◌, give, fail, spend, step, log, look, change, ask, catch, make_table, write_field, freeze_table, new_cell, bind_local, activate}
 use Rattle.luau_run.specs.Answers.{is_closure, yes_or_fail, other_kind, Aim, ForResults, Freedom, Free, Quiet, Move, Acts, Ends, a_move}
 use Rattle.luau_run.specs.Layer.{Frame, Ending, Falls, Returns, Layer, first}
@@ -138,7 +140,8 @@ further_args (varargs t) (more_binds b rest) args = further_args (varargs t) res
 abbrev pub frame_of : (module_at : ℕ) → ReadModule → (further : List Value) → (activation : ℕ) → Frame
 frame_of at reading further activation = record { activation = activation; module_at = at; reading = reading; further = further }
 
--- what a body does in a frame of its own: the captured cells, the parameters, the places of these, the statements
+-- what a body does in a frame of its own: the captured cells, the parameters, the places of these,
+-- the statements
 abbrev pub run_in : Layer → Frame → List (ℕ × ℕ) → Body → List Value → Part Ending
 run_in layer frame cells (the_body id has_self generics params vararg result code span) args = do
   bind_captured frame.activation cells
@@ -175,7 +178,8 @@ call program layer _ args = fail
 abbrev pub loaded_value : List (ℕ × Value) → ℕ → Option Value
 loaded_value loaded at = option_map (λ l. l.1) (find (λ l. l.0 == at) loaded)
 
--- the value of a module is kept behind those that are there by now; so it counts unless one of the same module is
+-- the value of a module is kept behind those that are there by now; so it counts unless one of the
+-- same module is
 abbrev pub keep_loaded : ℕ → Value → List (ℕ × Value) → List (ℕ × Value)
 keep_loaded at value loaded = loaded ++ (at, value) ∷ []
 

@@ -19,6 +19,7 @@ StaysAt reports (Reach activation module_at place ∷ later) =
     (Contains reports (module_at, place) → IsNotLeft activation later) × StaysAt reports later
 StaysAt reports (Leave activation ∷ later) = StaysAt reports later
 
--- the reports are certain of a program: whichever of its modules is run, with whatever steps and answers
+-- the reports are certain of a program: whichever of its modules is run, with whatever steps and
+-- answers
 abbrev pub Certain : Program → (reports : List (ℕ × Place)) → Type 0
 Certain program reports = (entry steps : ℕ) (tape : List Answer) → StaysAt reports (trace program entry steps tape)

@@ -11,11 +11,12 @@ use Rattle.luau_tree.specs.Tree as plain
 use Rattle.luau_tree.specs.declared.names.BinOp.{BinOp}
 use Rattle.luau_tree.specs.declared.names.BinOp.TheVariants.{Or, And}
 use Rattle.luau_tree.specs.declared.names.Place.TheVariants.{Expr as ExprPlace}
-use Rattle.luau_run.specs.Program.{Use, UseLocal, UseBuiltin, UseLibrary, UseGlobal, Program, paths}
+use Rattle.luau_run.specs.ReadModule.{Use, UseLocal, UseBuiltin, UseLibrary, UseGlobal}
+use Rattle.luau_run.specs.Program.{Program, paths}
 use Rattle.luau_run.specs.Machine.{Reach, Binding, Part, ◌>>=◌, ◌>>◌, give, spend, step, log, look, change, ask, make_table}
-use Rattle.luau_run.specs.Answers.{a_value, a_string, yes_or_fail}
+use Rattle.luau_run.specs.Answers.{a_string, yes_or_fail}
 use Rattle.luau_run.specs.Layer.{Frame, Layer, first}
-use Rattle.luau_run.specs.Operators.{is_true, binary, unary, named_field, element}
+use Rattle.luau_run.specs.Operators.{is_true, binary, unary, any_value, Base, named_field, element}
 
 -- the one value of an expression where it doesn't expand
 abbrev pub value : Layer → Frame → Expr → Part Value
@@ -70,7 +71,7 @@ abbrev pub named : Program → Frame → List ℕ → Option Use → Part Value
 named program frame name (Some (UseLocal local)) = local_value frame local
 named program frame name (Some (UseBuiltin path)) = give (Builtin path)
 named program frame name (Some UseLibrary) = table_or_spend (position (bytes_eq name) (libraries (paths program)))
-named program frame name (Some UseGlobal) = look >>= (λ store. ask (a_value program store))
+named program frame name (Some UseGlobal) = any_value program
 named program frame name None = spend
 
 -- the cells of the captured locals
@@ -102,6 +103,10 @@ stands_for_library _ = false
 abbrev pub is_library : Frame → Expr → Bool
 is_library frame (the_expr id span kind) = stands_for_library (frame.reading.use_of id)
 
+-- the base of a read or a write is evaluated for one value
+abbrev pub base_of : Layer → Frame → Expr → Part Base
+base_of layer frame e = value layer frame e >>= (λ v. give (record { value = v; is_library = is_library frame e }))
+
 -- the rest of `a and b` and of `a or b`, after a
 abbrev pub either_value : Layer → Frame → (done : Bool) → Value → Expr → Part Value
 either_value layer frame done v right = if done then give v else value layer frame right
@@ -119,7 +124,8 @@ chosen layer frame (more_choices cond v rest) last = do
   c ← value layer frame cond
   if is_true c then value layer frame v else chosen layer frame rest last
 
--- the fields that an item `[k] = v` gives: one where k is a string; else it is asked whether the write fails
+-- the fields that an item `[k] = v` gives: one where k is a string; else it is asked whether the
+-- write fails
 abbrev pub keyed_field : (key v : Value) → List Field → Part (List Field)
 keyed_field (Str name) v fields = give (written name v fields)
 keyed_field key v fields = ask yes_or_fail >> give fields
@@ -174,19 +180,19 @@ evaluate program layer frame id Vararg = give frame.further
 evaluate program layer frame id (FunctionExpr code) = one (make_closure frame code)
 evaluate program layer frame id (NameExpr name) = one (named program frame name (frame.reading.use_of id))
 evaluate program layer frame id (Index base name) = one (do
-  b ← value layer frame base
-  named_field program (is_library frame base) name b)
+  b ← base_of layer frame base
+  named_field program name b)
 evaluate program layer frame id (At base key) = one (do
-  b ← value layer frame base
+  b ← base_of layer frame base
   k ← value layer frame key
-  element program (is_library frame base) k b)
+  element program k b)
 evaluate program layer frame id (Call callee args) = call_expr layer frame (frame.reading.required id) callee args
 evaluate program layer frame id (Method base name name_span args) = do
-  b ← value layer frame base
+  b ← base_of layer frame base
   values ← all_values layer frame args
-  f ← named_field program (is_library frame base) name b
+  f ← named_field program name b
   step
-  layer.call f (b ∷ values)
+  layer.call f (b.value ∷ values)
 evaluate program layer frame id (Paren e) = one (value layer frame e)
 evaluate program layer frame id (Unary op e) = one (value layer frame e >>= unary program op)
 evaluate program layer frame id (Binary op left right) = one (do

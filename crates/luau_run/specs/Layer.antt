@@ -2,7 +2,7 @@
 use Rattle.std.specs.Prelude.{ℕ, List, [], ◌∷◌, Option}
 use Rattle.luau_values.specs.Value.{Value, Nil}
 use Rattle.luau_tree.specs.Tree.{Expr, Stat, Block, Binds}
-use Rattle.luau_run.specs.Program.{ReadModule}
+use Rattle.luau_run.specs.ReadModule.{ReadModule}
 use Rattle.luau_run.specs.Machine.{Part}
 use Rattle.luau_run.specs.Answers.{Aim, Freedom}
 
@@ -26,14 +26,16 @@ pub data Loop : Type 0 where
   RepeatLoop : (body : Block) (cond : Expr) → Loop
   -- a numeric `for` over a local
   NumLoop : (local : ℕ) (body : Block) → Loop
-  -- an iteration over a function, with the second value of the list, and the first value of the call before
+  -- an iteration over a function, with the second value of the list, and the first value of the
+  -- call before
   FunctionLoop : (iterator second control : Value) (binds : Binds) (body : Block) → Loop
   TableLoop : (binds : Binds) (body : Block) → Loop
   OtherLoop : (binds : Binds) (body : Block) → Loop
 
 -- what runs of a bounded depth do with each form of syntax, with calls and with acts
 pub record Layer : Type 0 where
-  -- evaluates an expression to its values: more or fewer than one only where a call or `...` expands
+  -- evaluates an expression to its values: more or fewer than one only where a call or `...`
+  -- expands
   pub values : Frame → Expr → Part (List Value)
   pub stat : Frame → Stat → Part Ending
   -- the turns of a loop from here on

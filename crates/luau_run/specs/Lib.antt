@@ -1,4 +1,9 @@
+pub mod ValueSet
+pub mod Signature
+pub mod ReadModule
 pub mod Program
+pub mod SyntaxNode
+pub mod ReadFolder
 pub mod Machine
 pub mod Answers
 pub mod Layer
@@ -8,14 +13,6 @@ pub mod Expressions
 pub mod Loops
 pub mod Statements
 pub mod Run
-pub mod Certain
 pub mod After
-pub mod Examples
-pub mod Pieces
-pub mod Forms
-pub mod LoopRuns
-pub mod CallRuns
-pub mod ActRuns
-pub mod OperatorRuns
-pub mod CodePieces
-pub mod ReadFolder
+pub mod Certain
+pub mod runs

@@ -18,7 +18,8 @@ declare frame (more_binds (the_bind name span typ) rest) values = do
   bind_local frame.activation (frame.reading.local_at span.start) cell
   declare frame rest (drop 1 values)
 
--- after a turn's body: a break ends the loop, a return ends the body around, and else the loop goes on
+-- after a turn's body: a break ends the loop, a return ends the body around, and else the loop goes
+-- on
 abbrev pub next_turn : Part Ending → Ending → Part Ending
 next_turn again Breaks = give Falls
 next_turn again (Returns values) = give (Returns values)
@@ -49,7 +50,8 @@ number_turn layer frame local body again (Some v) = do
   ending ← block layer frame body
   next_turn again ending
 
--- what a turn of an iteration over a function does with what the function gave: nil first ends the loop
+-- what a turn of an iteration over a function does with what the function gave: nil first ends the
+-- loop
 abbrev pub function_turn : Layer → Frame → (iterator second : Value) → Binds → Block → List Value → Part Ending
 function_turn layer frame iterator second binds body values =
     if is_nil (first values) then give Falls

@@ -5,14 +5,15 @@ use Rattle.luau_values.specs.Heap.{Heap, Field, is_frozen, with_table, with_fiel
 use Rattle.luau_tree.specs.Tree.{Body}
 use Rattle.luau_tree.specs.declared.names.Place.{Place}
 
--- an activation, which is one running of a body, begins to evaluate the expression at a place of a module, or has an
--- argument in the annotation of the parameter there; or its body has ended, normally or by return
+-- an activation, which is one running of a body, begins to evaluate the expression at a place of a
+-- module, or has an argument in the annotation of the parameter there; or its body has ended,
+-- normally or by return
 pub data Event : Type 0 where
   Reach : (activation module_at : ℕ) (place : Place) → Event
   Leave : (activation : ℕ) → Event
 
--- what a builtin does before it ends: it writes a field of a table, freezes a table, makes one, or calls a function,
--- with its failure passed on or caught
+-- what a builtin does before it ends: it writes a field of a table, freezes a table, makes one, or
+-- calls a function, with its failure passed on or caught
 pub data Act : Type 0 where
   Write : (table : ℕ) (name : List ℕ) (value : Value) → Act
   Freeze : (table : ℕ) → Act
@@ -20,8 +21,8 @@ pub data Act : Type 0 where
   Calls : (callee : Value) (args : List Value) → Act
   Catches : (callee : Value) (args : List Value) → Act
 
--- an answer to what the rules leave open: a value; yes or no; a failure; one more turn of a loop, with values for its
--- variables, or no more; an act of a builtin, or its end with results
+-- an answer to what the rules leave open: a value; yes or no; a failure; one more turn of a loop,
+-- with values for its variables, or no more; an act of a builtin, or its end with results
 pub data Answer : Type 0 where
   One : (value : Value) → Answer
   Says : (truth : Bool) → Answer
@@ -43,8 +44,8 @@ pub record Binding : Type 0 where
   pub local : ℕ
   pub cell : ℕ
 
--- what a run has made so far: cells with values, closures, tables, the newest binding of each local first, the values
--- of loaded modules, and the number of activations that have begun
+-- what a run has made so far: cells with values, closures, tables, the newest binding of each local
+-- first, the values of loaded modules, and the number of activations that have begun
 pub record Store : Type 0 where
   pub cells : List Value
   pub closures : List Closure
@@ -53,14 +54,16 @@ pub record Store : Type 0 where
   pub loaded : List (ℕ × Value)
   pub begun : ℕ
 
--- the state of a run: its store, the answers and the steps that are left, and what it has logged, oldest first
+-- the state of a run: its store, the answers and the steps that are left, and what it has logged,
+-- oldest first
 pub record State : Type 0 where
   pub store : Store
   pub tape : List Answer
   pub steps : ℕ
   pub trace : List Event
 
--- how a part of a run ends: it gives something, it fails by a run-time error, or steps or answers are spent
+-- how a part of a run ends: it gives something, it fails by a run-time error, or steps or answers
+-- are spent
 pub data Ran (A : Type 0) : Type 0 where
   Gave : (given : A) (state : State) → Ran A
   Failed : (state : State) → Ran A
@@ -78,7 +81,8 @@ go_on (Spent state) next = Spent state
 
 infixl 4 ◌>>=◌
 infixl 4 ◌>>◌
--- one part, and then the next with what it gave; where the first fails or is spent, so does the whole
+-- one part, and then the next with what it gave; where the first fails or is spent, so does the
+-- whole
 unfoldable pub ◌>>=◌ : {A B : Type 0} → Part A → (A → Part B) → Part B
 ◌>>=◌ part next state = go_on (part state) next
 
@@ -119,7 +123,8 @@ look state = Gave state.store state
 unfoldable pub change : (Store → Store) → Part (Unit {0})
 change f state = Gave tt (record state { store = f state.store })
 
--- what an answer is where it is asked for: it doesn't fit, it is a failure, or it fits and says something
+-- what an answer is where it is asked for: it doesn't fit, it is a failure, or it fits and says
+-- something
 pub data Reply (A : Type 0) : Type 0 where
   Unfit : Reply A
   Fails : Reply A

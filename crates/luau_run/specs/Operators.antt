@@ -1,4 +1,5 @@
--- What operators do with values. An operand of a failing kind fails; otherwise what the rules leave open is asked for.
+-- What operators do with values. An operand of a failing kind fails; otherwise what the rules leave
+-- open is asked for.
 use Rattle.std.specs.Prelude.{ℕ, Bool, true, false, not, ◌&&◌, ◌==◌, if◌then◌else◌, List, ◌++◌, is_some, codes}
 use Rattle.std.specs.Bool.{beq}
 use Rattle.std.specs.Str.{bytes_eq}
@@ -8,7 +9,8 @@ use Rattle.luau_tree.specs.declared.names.UnOp.{UnOp}
 use Rattle.luau_tree.specs.declared.names.UnOp.TheVariants.{Minus, Not, Length}
 use Rattle.luau_tree.specs.declared.names.BinOp.{BinOp}
 use Rattle.luau_tree.specs.declared.names.BinOp.TheVariants.{Less, Greater, LessEqual, GreaterEqual, NotEqual, Equal, Concat}
-use Rattle.luau_run.specs.Program.{Program, declaration}
+use Rattle.luau_run.specs.Program.{Program}
+use Rattle.luau_run.specs.Signature.{declaration}
 use Rattle.luau_run.specs.Machine.{Part, ◌>>=◌, give, fail, look, ask, write_field}
 use Rattle.luau_run.specs.Answers.{a_value, value_or_fail, a_number, number_or_fail, a_string, a_truth, truth_or_fail, yes_or_fail}
 
@@ -65,7 +67,8 @@ ordered NumberSort NumberSort = ask a_truth >>= (λ truth. give (Truth truth))
 ordered StringSort StringSort = ask a_truth >>= (λ truth. give (Truth truth))
 ordered _ _ = fail
 
--- whether two values are equal: of two numbers, of two that are `Other`, and of two closures of one literal the tape says it
+-- whether two values are equal: of two numbers, of two that are `Other`, and of two closures of one
+-- literal the tape says it
 abbrev pub equal : Value → Value → Part Bool
 equal (Num a) (Num b) = ask a_truth
 equal (Other a) (Other b) = ask a_truth
@@ -120,22 +123,35 @@ field program name (Str bytes) = give (string_field program name)
 field program name (Other number) = anything program
 field program name _ = fail
 
--- a value, or any value in place of nil
-abbrev pub or_any : Program → Value → Part Value
-or_any program value = if is_nil value then (look >>= (λ store. ask (a_value program store))) else give value
+-- any value that can be there by now
+abbrev pub any_value : Program → Part Value
+any_value program = look >>= (λ store. ask (a_value program store))
 
--- what a name reads as in a value; straight off a library's name it is any value where nothing is declared
-abbrev pub named_field : Program → (off_library : Bool) → List ℕ → Value → Part Value
-named_field program off_library name value =
-    field program name value >>= (λ found. if off_library then or_any program found else give found)
+-- what an expression gave whose field or element is read or written, and whether the expression is
+-- a library's name
+pub record Base : Type 0 where
+  pub value : Value
+  pub is_library : Bool
 
--- what stands in a value under a key; only a string is a name
-abbrev pub element : Program → (off_library : Bool) → (key value : Value) → Part Value
-element program off_library (Str name) value = named_field program off_library name value
-element program off_library key (Tab address) = look >>= (λ store. ask (a_value program store))
-element program off_library key (Str bytes) = look >>= (λ store. ask (a_value program store))
-element program off_library key (Other number) = anything program
-element program off_library key _ = fail
+-- what a name reads as off a base: the field; but where the base is a library's name, and nothing
+-- is declared there, any value. So it is in every form: `math.zz`, `math:zz()`, `math["zz"]`, a
+-- computed key, the read of a compound
+abbrev pub named_field : Program → List ℕ → Base → Part Value
+named_field program name base = do
+  found ← field program name base.value
+  if base.is_library && is_nil found then any_value program else give found
+
+-- what stands in a value under a key that is no string
+abbrev pub other_element : Program → Value → Part Value
+other_element program (Tab address) = any_value program
+other_element program (Str bytes) = any_value program
+other_element program (Other number) = anything program
+other_element program _ = fail
+
+-- what stands in a base under a key; only a string is a name
+abbrev pub element : Program → (key : Value) → Base → Part Value
+element program (Str name) base = named_field program name base
+element program key base = other_element program base.value
 
 -- a write to a field
 abbrev pub set_field : List ℕ → (written value : Value) → Part (Unit {0})

@@ -45,7 +45,8 @@ start program steps tape = record {
   trace = [];
 }
 
--- the run of a module of a program, with a number of steps and a tape of answers; no deeper layer would give another
+-- the run of a module of a program, with a number of steps and a tape of answers; no deeper layer
+-- would give another
 abbrev pub run : Program → (entry steps : ℕ) → List Answer → Ran Ending
 run program entry steps tape =
     enter_module (layer_of program (suc (steps + length tape))) entry (slice_get program.modules entry) (start program steps tape)

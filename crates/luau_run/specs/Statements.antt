@@ -6,21 +6,22 @@ use Rattle.luau_values.specs.Heap.{is_frozen}
 use Rattle.luau_tree.specs.Tree.{Expr, the_expr, Exprs, no_exprs, more_exprs, MaybeExpr, no_expr, an_expr, NameExpr, Index, At, Block, Stat, the_stat, StatKind, Assign, Compound, CallStat, Do, While, Repeat, If, NumFor, GenFor, FunctionStat, LocalFunction, Local, TypeAlias, TypeFunction, Return, Break, Continue, Arms, no_arms, more_arms, MaybeBlock, no_block, a_block, Body, Bind, the_bind, Binds}
 use Rattle.luau_tree.specs.declared.names.BinOp.{BinOp}
 use Rattle.luau_tree.specs.declared.names.Place.TheVariants.{Expr as ExprPlace}
-use Rattle.luau_run.specs.Program.{Use, UseLocal, Program}
+use Rattle.luau_run.specs.ReadModule.{Use, UseLocal}
+use Rattle.luau_run.specs.Program.{Program}
 use Rattle.luau_run.specs.Machine.{Reach, Part, ◌>>=◌, ◌>>◌, give, fail, spend, step, log, look, ask, new_cell, set_cell, bind_local}
-use Rattle.luau_run.specs.Answers.{yes_or_fail, a_value}
+use Rattle.luau_run.specs.Answers.{yes_or_fail}
 use Rattle.luau_run.specs.Layer.{Frame, Ending, Falls, Breaks, Continues, Returns, WhileLoop, RepeatLoop, NumLoop, FunctionLoop, TableLoop, OtherLoop, Layer, first}
-use Rattle.luau_run.specs.Operators.{is_true, binary, named_field, element, set_field, Sort, NumberSort, WrongSort, sort}
+use Rattle.luau_run.specs.Operators.{is_true, binary, any_value, Base, named_field, element, set_field, Sort, NumberSort, WrongSort, sort}
 use Rattle.luau_run.specs.Calls.{block}
-use Rattle.luau_run.specs.Expressions.{is_library, value, all_values, local_cell, local_value, make_closure}
+use Rattle.luau_run.specs.Expressions.{value, base_of, all_values, local_cell, local_value, make_closure}
 use Rattle.luau_run.specs.Loops.{declare}
 
 -- a target whose base and key were evaluated
 pub data Target : Type 0 where
   LocalTarget : (local : ℕ) → Target
   GlobalTarget : Target
-  FieldTarget : (off_library : Bool) (base : Value) (name : List ℕ) → Target
-  ElementTarget : (off_library : Bool) (base key : Value) → Target
+  FieldTarget : (base : Base) (name : List ℕ) → Target
+  ElementTarget : (base : Base) (key : Value) → Target
 
 -- the target that a name is
 abbrev pub name_target : Option Use → Target
@@ -31,12 +32,12 @@ name_target _ = GlobalTarget
 abbrev pub target : Layer → Frame → Expr → Part Target
 target layer frame (the_expr id span (NameExpr name)) = give (name_target (frame.reading.use_of id))
 target layer frame (the_expr id span (Index base name)) = do
-  b ← value layer frame base
-  give (FieldTarget (is_library frame base) b name)
+  b ← base_of layer frame base
+  give (FieldTarget b name)
 target layer frame (the_expr id span (At base key)) = do
-  b ← value layer frame base
+  b ← base_of layer frame base
   k ← value layer frame key
-  give (ElementTarget (is_library frame base) b k)
+  give (ElementTarget b k)
 target layer frame (the_expr id span kind) = spend
 
 -- the targets of an assignment, from the left
@@ -47,7 +48,8 @@ targets layer frame (more_exprs e rest) = do
   ts ← targets layer frame rest
   give (t ∷ ts)
 
--- a write by a key that is no string: a frozen table and what can't be written fail; else it is asked whether it fails
+-- a write by a key that is no string: a frozen table and what can't be written fail; else it is
+-- asked whether it fails
 abbrev pub set_other : Value → Part (Unit {0})
 set_other (Tab address) = do
   store ← look
@@ -64,8 +66,8 @@ set_element key written base = set_other base
 abbrev pub write_to : Frame → Target → Value → Part (Unit {0})
 write_to frame (LocalTarget local) written = local_cell frame local >>= (λ cell. set_cell cell written)
 write_to frame GlobalTarget written = give tt
-write_to frame (FieldTarget off base name) written = set_field name written base
-write_to frame (ElementTarget off base key) written = set_element key written base
+write_to frame (FieldTarget base name) written = set_field name written base.value
+write_to frame (ElementTarget base key) written = set_element key written base.value
 
 -- the writes of an assignment, from the left
 abbrev pub write_all : Frame → List Target → List Value → Part (Unit {0})
@@ -75,15 +77,16 @@ write_all frame (t ∷ ts) values = write_to frame t (first values) >> write_all
 -- what a target of a compound assignment holds
 abbrev pub read_from : Program → Frame → Target → Part Value
 read_from program frame (LocalTarget local) = local_value frame local
-read_from program frame GlobalTarget = look >>= (λ store. ask (a_value program store))
-read_from program frame (FieldTarget off base name) = named_field program off name base
-read_from program frame (ElementTarget off base key) = element program off key base
+read_from program frame GlobalTarget = any_value program
+read_from program frame (FieldTarget base name) = named_field program name base
+read_from program frame (ElementTarget base key) = element program key base
 
 -- the number of an expression
 abbrev pub place_of : Expr → ℕ
 place_of (the_expr id span kind) = id
 
--- a compound assignment: the target's place, its base and key, the read, the value, the operation, the write
+-- a compound assignment: the target's place, its base and key, the read, the value, the operation,
+-- the write
 abbrev pub compound : Program → Layer → Frame → Expr → BinOp → Expr → Part Ending
 compound program layer frame at op e = do
   log (Reach frame.activation frame.module_at (ExprPlace (record { 0 = place_of at })))
@@ -120,8 +123,8 @@ is_number_sort _ = false
 abbrev pub is_sure_bound : Value → Bool
 is_sure_bound v = is_number_sort (sort v)
 
--- a numeric `for` begins: a bound that is nil, a boolean, a function or a table fails; one that is a string or
--- something else may fail
+-- a numeric `for` begins: a bound that is nil, a boolean, a function or a table fails; one that is
+-- a string or something else may fail
 abbrev pub begin_for : List Value → Part (Unit {0})
 begin_for bounds =
     if list_any is_wrong bounds then fail

@@ -1,5 +1,5 @@
--- Heaps: the tables of a run, each with a mark that says whether it is frozen, and with named fields.
--- What stands under keys that are no strings is in no heap.
+-- Heaps: the tables of a run, each with a mark that says whether it is frozen, and with named
+-- fields. What stands under keys that are no strings is in no heap.
 use Rattle.std.specs.Prelude.{◌≢◌, ℕ, zero, suc, Bool, true, false, not, if◌then◌else◌, List, [], ◌∷◌, ◌++◌, slice_get, IsFalse}
 use Rattle.std.specs.Option.{option_map_or}
 use Rattle.std.specs.List.{All, AllPairs, filter}

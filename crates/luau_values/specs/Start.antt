@@ -1,4 +1,5 @@
--- The heap at the start of a run: the tables of the libraries, in an order that a tape can count by.
+-- The heap at the start of a run: the tables of the libraries, in an order that a tape can count
+-- by.
 use Rattle.std.specs.Prelude.{ℕ, true, if◌then◌else◌, ◌==◌, List, [], ◌∷◌, ◌++◌, map, length, drop, Option, Some, None}
 use Rattle.std.specs.Option.{option_map}
 use Rattle.std.specs.List.{filter_map, starts_with}
@@ -22,12 +23,14 @@ library_of (c ∷ path) = if c == 46 then Some [] else option_map (λ library. c
 abbrev pub name_cmp : List ℕ → List ℕ → Ordering
 name_cmp = slice_cmp nat_cmp
 
--- some names in their order, each once: every name is put in its place among the others, unless it is there already
+-- some names in their order, each once: every name is put in its place among the others, unless it
+-- is there already
 abbrev pub in_order : List (List ℕ) → List (List ℕ)
 in_order [] = []
 in_order (name ∷ names) = insert_key name_cmp (in_order names) name
 
--- the libraries of some paths, each once, in the order of their names; a library's number is its position here
+-- the libraries of some paths, each once, in the order of their names; a library's number is its
+-- position here
 abbrev pub libraries : List (List ℕ) → List (List ℕ)
 libraries paths = in_order (filter_map library_of paths)
 
@@ -37,7 +40,8 @@ library_fields library paths =
     filter_map (λ path. option_map (λ name. record { name = name; value = Builtin path })
     (after_prefix (library ++ 46 ∷ []) path)) paths
 
--- the heap at the start of a run over builtins with these paths: a frozen table for each library, and nothing else
+-- the heap at the start of a run over builtins with these paths: a frozen table for each library,
+-- and nothing else
 abbrev pub start_heap : List (List ℕ) → Heap
 start_heap paths =
     map (λ library. record { frozen = true; fields = library_fields library paths }) (libraries paths)

@@ -30,7 +30,8 @@ pub fn grows_later()
     ensures { (h g : Heap) → Grows h g → Later h g }
 {}
 
-/// New tables are growth, and so is freezing; and a heap that has grown still has after a write to a new table.
+/// New tables are growth, and so is freezing; and a heap that has grown still has after a write to
+/// a new table.
 #[tactic(auto, using(crate::proofs::GrowsFacts::table_grows, crate::proofs::GrowsFacts::freeze_grows, crate::proofs::GrowsFacts::fill_grows))]
 pub fn changes_that_grow()
     ensures makes { (h : Heap) (fields : List Field) → Grows h (with_table fields h) }

@@ -62,7 +62,8 @@ pub fn freeze_later()
     ensures { (h : Heap) (a : ℕ) → Later h (with_frozen a h) }
 {}
 
-/// A new table stands at the address after the last, isn't frozen, and has the fields that it is given.
+/// A new table stands at the address after the last, isn't frozen, and has the fields that it is
+/// given.
 #[tactic(auto, using(crate::proofs::HeapFacts::new_table))]
 pub fn new_table_stands()
     ensures { (h : Heap) (fields : List Field)
@@ -92,7 +93,8 @@ pub fn extends_later()
     ensures { (h g : Heap) → Extends h g → Later h g }
 {}
 
-/// From where a quiet call begins, a heap only gets more tables: by new ones, and by writes to these.
+/// From where a quiet call begins, a heap only gets more tables: by new ones, and by writes to
+/// these.
 #[tactic(auto, using(crate::proofs::HeapFacts::extends_refl, crate::proofs::HeapFacts::extends_table, crate::proofs::HeapFacts::extends_fill))]
 pub fn quiet_changes_extend()
     ensures begins { (h : Heap) → Extends h h }
@@ -102,7 +104,8 @@ pub fn quiet_changes_extend()
         → Extends h (with_field a name value g) }
 {}
 
-/// A field that is written reads as what was written, and every field of another name, and of another table, as before.
+/// A field that is written reads as what was written, and every field of another name, and of
+/// another table, as before.
 #[tactic(auto, using(crate::proofs::HeapFacts::write_reads, crate::proofs::HeapFacts::write_leaves, crate::proofs::HeapFacts::write_elsewhere))]
 pub fn fields_after_write()
     ensures own { (h : Heap) (a : ℕ) (name : List ℕ) (value : Value) → a < length h
@@ -123,7 +126,8 @@ pub fn frozen_tables_after_write()
         → field_of (with_field a name value h) b other ≡ field_of h b other }
 {}
 
-/// Fields that are written one after another, beginning with none, never have a name twice, and no value is nil.
+/// Fields that are written one after another, beginning with none, never have a name twice, and no
+/// value is nil.
 #[tactic(auto, using(crate::proofs::HeapFacts::no_fields, crate::proofs::HeapFacts::write_keeps_fields))]
 pub fn names_stand_once()
     ensures none { AreFields [] }

@@ -13,8 +13,8 @@ pub fn standing_stays()
     ensures { (h g : Heap) (v : Value) → Later h g → Stands h v → Stands g v }
 {}
 
-/// What stands in tables stands at the start of a run, and after each change: by a table whose fields stand, by a write
-/// of a value that stands, and by freezing.
+/// What stands in tables stands at the start of a run, and after each change: by a table whose
+/// fields stand, by a write of a value that stands, and by freezing.
 #[tactic(auto, using(crate::proofs::StandsFacts::start_stands, crate::proofs::StandsFacts::table_stands, crate::proofs::StandsFacts::write_stands, crate::proofs::StandsFacts::freeze_stands))]
 pub fn fields_stand()
     ensures start { (paths : List (List ℕ)) → FieldsStand (start_heap paths) }

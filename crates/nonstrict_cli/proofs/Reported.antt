@@ -6,7 +6,7 @@ use Rattle.std.proofs.lemmas.Bool.{ne_eqb}
 use Rattle.luau_tree.specs.declared.names.Place.{Place}
 use Rattle.luau_tree.specs.declared.position.Span.{Span}
 use Rattle.luau_tree.specs.Tree.{Block, more_stats, Expr}
-use Rattle.luau_run.specs.CodePieces.{of_block}
+use Rattle.luau_run.specs.SyntaxNode.{of_block}
 use Rattle.rules_certain.specs.Literal.{Literal, NilLiteral, TruthLiteral, NumberLiteral, StrLiteral, is_number}
 use Rattle.rules_certain.specs.Calls.{Written, stat_of, block_of, after_call}
 use Rattle.rules_certain.specs.Reports.{place, argument_of, reports_in}

@@ -6,7 +6,7 @@ use Rattle.luau_tree.specs.declared.names.Place.{Place}
 use Rattle.luau_tree.specs.declared.names.Place.TheVariants.{Expr as ExprPlace, Param as ParamPlace}
 use Rattle.luau_tree.specs.declared.position.Span.{Span}
 use Rattle.luau_tree.specs.Tree.{Block, Expr, the_expr}
-use Rattle.luau_run.specs.CodePieces.{Piece, AnExpr, of_block}
+use Rattle.luau_run.specs.SyntaxNode.{SyntaxNode, AnExpr, of_block}
 use Rattle.diag_text.specs.declared.line.Line.{Line}
 use Rattle.outside.specs.Contents.{File}
 use Rattle.rules_certain.specs.Calls.{block_of}
@@ -16,7 +16,7 @@ use Rattle.nonstrict_cli.specs.Folder.{argument_line, lines_by_module}
 use Rattle.nonstrict_cli.specs.Output.{is_refusal}
 
 -- the expressions among the pieces of a module's code
-abbrev pub exprs_in : List Piece → List Expr
+abbrev pub exprs_in : List SyntaxNode → List Expr
 exprs_in [] = []
 exprs_in (AnExpr e ∷ pieces) = e ∷ exprs_in pieces
 exprs_in (_ ∷ pieces) = exprs_in pieces

@@ -7,7 +7,10 @@ use Rattle.luau_values.specs.Heap.{Heap}
 use Rattle.luau_tree.specs.declared.names.Place.{Place}
 use Rattle.luau_tree.specs.declared.position.Span.{Span}
 use Rattle.luau_tree.specs.Tree.{Expr, the_expr, no_exprs, more_exprs, ExprKind, Call, Index, NameExpr}
-use Rattle.luau_run.specs.Program.{Kind, Signature, declaration, all_in, kind_or, takes, Use, UseBuiltin, Program}
+use Rattle.luau_run.specs.ValueSet.{ValueSet, everything, numbers, all_in, set_or}
+use Rattle.luau_run.specs.Signature.{Signature, declaration, takes}
+use Rattle.luau_run.specs.ReadModule.{Use, UseBuiltin}
+use Rattle.luau_run.specs.Program.{Program}
 use Rattle.luau_run.specs.Machine.{Event, Reach, Store, State, Ran, Gave, Failed, Spent, go_on, ◌>>=◌, give, fail, spend, step_of, step, log, look}
 use Rattle.luau_run.specs.Layer.{Frame, Layer, first, Ending, Falls, Breaks, Continues, Returns}
 use Rattle.luau_run.specs.Calls.{meaning, declared_call, call_builtin, call, block_rest, block}
@@ -15,7 +18,7 @@ use Rattle.luau_run.specs.Expressions.{value, call_expr, evaluate_or_builtin, va
 use Rattle.luau_run.specs.Statements.{stat}
 use Rattle.luau_run.specs.Run.{layer_of}
 use Rattle.rules_certain.specs.Literal.{Literal, NilLiteral, TruthLiteral, NumberLiteral, StrLiteral, is_number, kind_of}
-use Rattle.rules_certain.specs.OneNumber.{is_num, AreOneNumber, TakesOneNumber, DeclaresAbs}
+use Rattle.rules_certain.specs.OneNumber.{AreOneNumber, TakesOneNumber, DeclaresAbs}
 use Rattle.rules_certain.specs.Calls.{Written, stat_of, after_call, block_of}
 use Rattle.rules_certain.specs.Reports.{place, argument_of}
 use Rattle.rules_certain.proofs.Parts.{NoLeave, Clear, clear_no_leave, reach_no_leave, reach_clear, Post, post_then, post_step}
@@ -29,10 +32,10 @@ value_of (NumberLiteral text) = Num text
 value_of (StrLiteral bytes) = Str bytes
 
 -- a literal that is no number is no value that a function of one number takes
-not_taken : (params : List Kind) (heap : Heap) (further : Kind) (v : Value) → AreOneNumber params → is_num v ≡ false → all_in heap params further (v ∷ []) ≡ false
+not_taken : (params : List ValueSet) (heap : Heap) (further : ValueSet) (v : Value) → AreOneNumber params → numbers heap v ≡ false → all_in heap params further (v ∷ []) ≡ false
 not_taken [] heap further v one e = absurd one
-not_taken (kind ∷ []) heap further v one e = ap (λ b. b && true) (one heap v ∙ e)
-not_taken (kind ∷ next ∷ params) heap further v one e = absurd one
+not_taken (set ∷ []) heap further v one e = ap (λ b. b && true) (one heap v ∙ e)
+not_taken (set ∷ next ∷ params) heap further v one e = absurd one
 
 module _ (program : Program) (reports : List (ℕ × Place)) where
   -- no reported place was reached, and no closure was made
@@ -50,7 +53,7 @@ module _ (program : Program) (reports : List (ℕ × Place)) where
 
   module _ (declared : DeclaresAbs program.builtins) where
     -- a call with what is no number fails
-    wrong_fails : (layer : Layer) (o : Option Signature) (v : Value) (s : State) → IsSomeAnd o TakesOneNumber → is_num v ≡ false → NoLeave s.trace
+    wrong_fails : (layer : Layer) (o : Option Signature) (v : Value) (s : State) → IsSomeAnd o TakesOneNumber → numbers s.store.heap v ≡ false → NoLeave s.trace
         → Post Fine (declared_call layer o (codes "math.abs") (v ∷ []) s)
     unfolding ◌>>=◌ fail look
     wrong_fails layer None v s h e n = absurd h
@@ -59,9 +62,9 @@ module _ (program : Program) (reports : List (ℕ × Place)) where
       where
         test : (signature.checked && not (takes signature s.store.heap (v ∷ []))) ≡ true
         test = ap (λ b. b && not (takes signature s.store.heap (v ∷ []))) h.0
-            ∙ ap (λ b. true && not b) (not_taken signature.params s.store.heap (kind_or (λ h v. true) signature.rest) v h.1 e)
+            ∙ ap (λ b. true && not b) (not_taken signature.params s.store.heap (set_or everything signature.rest) v h.1 e)
 
-    wrong_call : (d : ℕ) (v : Value) (s : State) → is_num v ≡ false → NoLeave s.trace → Post Fine ((layer_of program d).call (Builtin (codes "math.abs")) (v ∷ []) s)
+    wrong_call : (d : ℕ) (v : Value) (s : State) → numbers s.store.heap v ≡ false → NoLeave s.trace → Post Fine ((layer_of program d).call (Builtin (codes "math.abs")) (v ∷ []) s)
     unfolding spend call call_builtin
     wrong_call zero v s e n = n
     wrong_call (suc d) v s e n = wrong_fails (layer_of program d) (declaration program.builtins (codes "math.abs")) v s declared e n

@@ -7,8 +7,10 @@ use Rattle.std.proofs.lemmas.Bool.{ne_eqb}
 use Rattle.std.proofs.lemmas.Slice.Eq.{bytes_eq-Decides}
 use Rattle.luau_values.specs.Start.{library_of}
 use Rattle.luau_tree.specs.Tree.{the_expr, no_exprs, more_exprs, ExprKind, Call, Index, NameExpr}
-use Rattle.luau_run.specs.Program.{Signature, Declared, declaration, Use, UseBuiltin, ReadModule, Program}
-use Rattle.luau_run.specs.CodePieces.{Piece, of_block, of_expr_kind}
+use Rattle.luau_run.specs.Signature.{Signature, Declared, declaration}
+use Rattle.luau_run.specs.ReadModule.{Use, UseBuiltin, ReadModule}
+use Rattle.luau_run.specs.Program.{Program}
+use Rattle.luau_run.specs.SyntaxNode.{SyntaxNode, of_block, of_expr_kind}
 use Rattle.luau_run.specs.ReadFolder.{is_among, are_distinct, Requires, Leads, may_mean, declared_by, IsReadWell, IsRead, IsReadFolder}
 use Rattle.rules_certain.specs.Literal.{Literal, NilLiteral, TruthLiteral, NumberLiteral, StrLiteral, kind_of}
 use Rattle.rules_certain.specs.OneNumber.{TakesOneNumber, DeclaresAbs}
@@ -78,15 +80,15 @@ module _ (program : Program) (declared : DeclaresAbs program.builtins) (reading 
       by_literal (NumberLiteral text) = refl
       by_literal (StrLiteral bytes) = refl
 
-  -- a literal has no pieces within
-  no_more : (P : List Piece → Type 0) (l : Literal) (rest : List Piece) → P rest → P ((of_expr_kind (kind_of l) ++ []) ++ rest)
+  -- a literal has no nodes within
+  no_more : (P : List SyntaxNode → Type 0) (l : Literal) (rest : List SyntaxNode) → P rest → P ((of_expr_kind (kind_of l) ++ []) ++ rest)
   no_more P NilLiteral rest h = h
   no_more P (TruthLiteral true) rest h = h
   no_more P (TruthLiteral false) rest h = h
   no_more P (NumberLiteral text) rest h = h
   no_more P (StrLiteral bytes) rest h = h
 
-  -- each piece of calls with numbers from `n` on is read well
+  -- each node of calls with numbers from `n` on is read well
   read_calls : (n : ℕ) (calls : List Written) → ((id : ℕ) → reading.use_of (n + id) ≡ use_in calls id)
       → AllByRecursion (IsReadWell program reading) (of_block (block_of n calls))
   read_calls n [] u = tt
@@ -115,14 +117,14 @@ module _ (program : Program) (declared : DeclaresAbs program.builtins) (reading 
   no_local : (n : ℕ) (calls : List Written) → filter_map (declared_by reading) (of_block (block_of n calls)) ≡ []
   no_local n [] = refl
   no_local n (w ∷ calls) =
-      no_more (λ pieces. filter_map (declared_by reading) pieces ≡ []) w.literal (of_block (block_of (after_call n) calls)) (no_local (after_call n) calls)
+      no_more (λ nodes. filter_map (declared_by reading) nodes ≡ []) w.literal (of_block (block_of (after_call n) calls)) (no_local (after_call n) calls)
 
 module _ (program : Program) (declared : DeclaresAbs program.builtins) where
   all_well : (home : ℕ) (modules : List (List Written)) → AllByRecursion (IsRead program) (modules_from home modules)
   all_well home [] = tt
   all_well home (calls ∷ modules) = (
     record {
-      pieces = read_calls program declared (module_of home calls) 0 calls (λ id. ap (use_in calls) (omega arith));
+      nodes = read_calls program declared (module_of home calls) 0 calls (λ id. ap (use_in calls) (omega arith));
       locals = ap are_distinct (no_local program declared (module_of home calls) 0 calls);
     },
     all_well (suc home) modules,

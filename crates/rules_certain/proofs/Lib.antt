@@ -1,6 +1,5 @@
 pub mod Still
 pub mod FolderOf
-pub mod Homes
 pub mod Parts
 pub mod CallRuns
 pub mod ReportPlaces

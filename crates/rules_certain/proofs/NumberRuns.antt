@@ -3,7 +3,7 @@ use Rattle.std.proofs.Common.{◌≡◌, ℕ, zero, suc, ◌+◌, ◌-◌, ◌*�
 use Rattle.luau_values.specs.Value.{Num}
 use Rattle.luau_tree.specs.declared.names.Place.{Place}
 use Rattle.luau_tree.specs.Tree.{Block}
-use Rattle.luau_run.specs.Program.{UseBuiltin, ReadModule}
+use Rattle.luau_run.specs.ReadModule.{UseBuiltin, ReadModule}
 use Rattle.luau_run.specs.Machine.{Event, Reach, Leave, Answer, Done, State, Ran, Gave, go_on, ◌>>=◌, give, fail, spend, step, log, look, change, ask, catch, write_field, activate}
 use Rattle.luau_run.specs.Operators.{anything}
 use Rattle.luau_run.specs.Layer.{Frame, Ending, Falls}

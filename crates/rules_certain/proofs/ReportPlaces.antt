@@ -3,7 +3,7 @@ use Rattle.std.proofs.Common.{◌≡◌, ℕ, zero, suc, ◌+◌, ◌≤◌, Boo
 use Rattle.std.specs.Bool.{⊤}
 use Rattle.luau_tree.specs.declared.names.Place.{Place}
 use Rattle.luau_tree.specs.declared.names.Place.TheVariants.{Expr as ExprPlace}
-use Rattle.luau_run.specs.Program.{ReadModule}
+use Rattle.luau_run.specs.ReadModule.{ReadModule}
 use Rattle.rules_certain.specs.Literal.{is_number}
 use Rattle.rules_certain.specs.Calls.{Written, after_call, ReadsAs, AllReadAs}
 use Rattle.rules_certain.specs.Reports.{place, argument_of, reports_in, reports_from}

@@ -1,18 +1,18 @@
 -- The runs of programs of calls: reports at literals that aren't numbers are certain.
 use Rattle.std.proofs.Common.{◌≡◌, ℕ, zero, suc, ◌+◌, ◌≤◌, Bool, true, false, if◌then◌else◌, List, [], ◌∷◌, length, Option, Some, None, slice_get, refl, sym, subst, arith, Contains}
-use Rattle.luau_values.specs.Value.{Value, Nil, Truth, Num, Str, Tab, Lit, Builtin, Other}
-use Rattle.luau_values.specs.Heap.{Heap}
 use Rattle.luau_tree.specs.declared.names.Place.{Place}
 use Rattle.luau_tree.specs.Tree.{Block}
-use Rattle.luau_run.specs.Program.{Declared, ReadModule, Program}
+use Rattle.luau_run.specs.Signature.{Declared}
+use Rattle.luau_run.specs.ReadModule.{ReadModule}
+use Rattle.luau_run.specs.Program.{Program}
 use Rattle.luau_run.specs.Machine.{Leave, Answer, State, Ran, Gave, Failed, Spent, go_on, ◌>>=◌, give, spend, log, look, change, activate}
 use Rattle.luau_run.specs.Layer.{Frame, Ending}
 use Rattle.luau_run.specs.Calls.{block, frame_of, enter_module}
 use Rattle.luau_run.specs.Run.{layer_of, start, end_of}
 use Rattle.luau_run.specs.Certain.{StaysAt, Certain}
-use Rattle.luau_run.specs.Examples.{number_type, abs}
+use Rattle.luau_run.specs.runs.Builders.{abs}
 use Rattle.rules_certain.specs.Literal.{Literal, is_number}
-use Rattle.rules_certain.specs.OneNumber.{is_num, DeclaresAbs}
+use Rattle.rules_certain.specs.OneNumber.{DeclaresAbs}
 use Rattle.rules_certain.specs.Calls.{Written, after_call, block_of, use_in, ReadsAs, AllReadAs, modules_from, program_of}
 use Rattle.rules_certain.specs.Reports.{place, argument_of, reports_in, reports_of}
 use Rattle.rules_certain.specs.Examples.{modules_for, program_for, reports_for}
@@ -93,15 +93,5 @@ pub certain : (builtins : List Declared) (modules : List (List Written)) → Dec
     → Certain (program_of builtins modules) (reports_of modules)
 certain builtins modules declared = read_is_certain (program_of builtins modules) modules declared (all_read 1 modules)
 
-of_number : (heap : Heap) (v : Value) → number_type heap v ≡ is_num v
-of_number heap (Num text) = refl
-of_number heap Nil = refl
-of_number heap (Truth truth) = refl
-of_number heap (Str bytes) = refl
-of_number heap (Tab address) = refl
-of_number heap (Lit home function cells) = refl
-of_number heap (Builtin path) = refl
-of_number heap (Other number) = refl
-
 pub one_is_certain : (literals : List Literal) → Certain (program_for literals) (reports_for literals)
-one_is_certain literals = certain (abs ∷ []) (modules_for literals) (refl, λ heap v. of_number heap v)
+one_is_certain literals = certain (abs ∷ []) (modules_for literals) (refl, λ heap v. refl)

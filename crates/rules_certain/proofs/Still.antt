@@ -4,7 +4,8 @@ use Rattle.std.specs.List.{find}
 use Rattle.std.specs.Str.{bytes_eq}
 use Rattle.luau_values.specs.Value.{Value, Nil, Truth, Num, Str, Tab, Lit, Builtin, Other}
 use Rattle.luau_values.specs.Heap.{is_frozen, with_frozen}
-use Rattle.luau_run.specs.Program.{Signature, declaration, takes, may_give, Program}
+use Rattle.luau_run.specs.Signature.{Signature, declaration, takes, may_give}
+use Rattle.luau_run.specs.Program.{Program}
 use Rattle.luau_run.specs.Machine.{Event, Write, Freeze, Make, Calls, Catches, Answer, Closure, State, Ran, Gave, Failed, Spent, Part, go_on, ◌>>=◌, give, fail, spend, step_of, step, look, change, caught, catch, Reply, Unfit, Fails, Fits, replied, asked, ask, write_field}
 use Rattle.luau_run.specs.Answers.{is_closure, yes_or_fail, other_kind, ForResults, Freedom, Free, Move, Acts, Ends, a_move}
 use Rattle.luau_run.specs.Layer.{first}

@@ -4,7 +4,9 @@
 use Rattle.std.specs.Prelude.{◌≡◌, ⊤, ℕ, zero, suc, true, List, [], ◌∷◌, Option, Some, None, codes}
 use Rattle.luau_tree.specs.declared.position.Span.{Span}
 use Rattle.luau_tree.specs.Tree.{Block, no_stats, more_stats, Stat, the_stat, CallStat, the_expr, no_exprs, more_exprs, Call, Index, NameExpr}
-use Rattle.luau_run.specs.Program.{Declared, Use, UseBuiltin, UseLibrary, ReadModule, Program}
+use Rattle.luau_run.specs.Signature.{Declared}
+use Rattle.luau_run.specs.ReadModule.{Use, UseBuiltin, UseLibrary, ReadModule}
+use Rattle.luau_run.specs.Program.{Program}
 use Rattle.rules_certain.specs.Literal.{Literal, kind_of}
 
 -- a call of `math.abs` as it is written: its literal, and where it, `math.abs`, `math` and the literal stand

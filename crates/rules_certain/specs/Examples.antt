@@ -1,10 +1,12 @@
 -- Modules of the built form without regard to where they stand in a text.
 use Rattle.std.specs.Prelude.{ℕ, ◌*◌, List, [], ◌∷◌, map}
 use Rattle.luau_tree.specs.declared.names.Place.{Place}
-use Rattle.luau_run.specs.Program.{ReadModule, Program}
+use Rattle.luau_run.specs.ReadModule.{ReadModule}
+use Rattle.luau_run.specs.Program.{Program}
 use Rattle.luau_run.specs.Machine.{Event, Answer}
 use Rattle.luau_run.specs.Run.{run, end_of}
-use Rattle.luau_run.specs.Examples.{abs, somewhere, Outcome, outcome}
+use Rattle.luau_run.specs.runs.Builders.{abs, somewhere}
+use Rattle.luau_run.specs.runs.Outcome.{Outcome, outcome}
 use Rattle.rules_certain.specs.Literal.{Literal}
 use Rattle.rules_certain.specs.Calls.{Written, program_of}
 use Rattle.rules_certain.specs.Reports.{argument_of, reports_of}

@@ -4,7 +4,8 @@ ghost use Rattle.std.specs.Prelude.{◌≡◌, ◌∷◌, [], true, false, codes
 ghost use Rattle.luau_values.specs.Value.{Num};
 ghost use Rattle.luau_tree.specs.Tree.{StrExpr, TrueExpr, FalseExpr};
 ghost use Rattle.luau_run.specs.Machine.{Leave, Done};
-ghost use Rattle.luau_run.specs.Examples.{Normal, Failure, Unfinished, reached, call_of_abs};
+ghost use Rattle.luau_run.specs.runs.Outcome.{Normal, Failure, Unfinished, reached};
+ghost use Rattle.luau_run.specs.runs.CallOfAbs.{call_of_abs};
 ghost use Rattle.rules_certain.specs.Literal.{NilLiteral, TruthLiteral, NumberLiteral, StrLiteral};
 ghost use Rattle.rules_certain.specs.Calls.{block_of};
 ghost use Rattle.rules_certain.specs.Reports.{place};

@@ -4,10 +4,12 @@
 ghost use Rattle.std.specs.Prelude.{◌≡◌, ◌↔◌, ◌<◌, ◌∷◌, [], ℕ, List, length, slice_get, Some};
 ghost use Rattle.std.specs.List.{Contains};
 ghost use Rattle.luau_tree.specs.declared.names.Place.{Place};
-ghost use Rattle.luau_run.specs.Program.{Declared, Program, ReadModule};
+ghost use Rattle.luau_run.specs.Signature.{Declared};
+ghost use Rattle.luau_run.specs.Program.{Program};
+ghost use Rattle.luau_run.specs.ReadModule.{ReadModule};
 ghost use Rattle.luau_run.specs.ReadFolder.{IsReadFolder, Requires};
 ghost use Rattle.luau_run.specs.Certain.{Certain};
-ghost use Rattle.luau_run.specs.Examples.{abs};
+ghost use Rattle.luau_run.specs.runs.Builders.{abs};
 ghost use Rattle.rules_certain.specs.Literal.{Literal};
 ghost use Rattle.rules_certain.specs.OneNumber.{DeclaresAbs};
 ghost use Rattle.rules_certain.specs.Calls.{Written, AllReadAs, program_of};
@@ -30,14 +32,6 @@ pub fn reports_certain()
 pub fn calls_have_a_read_folder()
     ensures { (builtins : List Declared) (modules : List (List Written)) → DeclaresAbs builtins
         → IsReadFolder (program_of builtins modules) × AllReadAs modules (program_of builtins modules).modules }
-{}
-
-/// In a read folder a home tells the module, no home is 0, and no module requires itself.
-pub fn homes_tell_modules()
-    ensures home { (program : Program) (i j : ℕ) (one other : ReadModule) → IsReadFolder program → slice_get program.modules i ≡ Some one
-        → slice_get program.modules j ≡ Some other → one.home ≡ other.home → i ≡ j }
-    ensures not_zero { (program : Program) (i : ℕ) (one : ReadModule) → IsReadFolder program → slice_get program.modules i ≡ Some one → one.home ≡ 0 → ⊥ }
-    ensures not_itself { (program : Program) (at : ℕ) → IsReadFolder program → Requires program at at → ⊥ }
 {}
 
 /// What is reported are exactly the literals that aren't numbers, each at its own place.

@@ -1,0 +1,19 @@
+use Rattle.std.proofs.Common.{refl}
+use Rattle.luau_run.specs.Machine.{◌>>=◌, give, fail, spend, step, log, look, change, ask, catch, write_field, activate}
+use Rattle.luau_run.specs.Operators.{anything}
+use Rattle.luau_run.specs.Calls.{acts, call_builtin, call, require}
+use Rattle.luau_run.specs.Expressions.{values}
+use Rattle.luau_run.specs.Loops.{turns}
+use Rattle.luau_run.specs.Statements.{stat}
+use Rattle.luau_run.proofs.runs.loops.bounds_of_for.Goals as goal
+
+pub returns : goal.returns
+unfolding ◌>>=◌ give fail spend step log look change ask catch write_field activate anything acts call_builtin call require values turns stat
+returns c = record {
+  nil_bound = refl;
+  string_bound = refl;
+  string_bound_fails = refl;
+  nil_step = refl;
+  number_step = refl;
+  no_such_turn = refl;
+}

@@ -1,0 +1,23 @@
+use Rattle.std.proofs.Common.{refl}
+use Rattle.luau_run.specs.Machine.{◌>>=◌, give, fail, spend, step, log, look, change, ask, catch, write_field, activate}
+use Rattle.luau_run.specs.Operators.{anything}
+use Rattle.luau_run.specs.Calls.{acts, call_builtin, call, require}
+use Rattle.luau_run.specs.Expressions.{values}
+use Rattle.luau_run.specs.Loops.{turns}
+use Rattle.luau_run.specs.Statements.{stat}
+use Rattle.luau_run.proofs.runs.operators.arithmetic_on_kinds.Goals as goal
+
+pub returns : goal.returns
+unfolding ◌>>=◌ give fail spend step log look change ask catch write_field activate anything acts call_builtin call require values turns stat
+returns c = record {
+  numbers = refl;
+  numbers_do_not_fail = refl;
+  string_fails = refl;
+  nil_fails = refl;
+  minus_number = refl;
+  minus_table = refl;
+  string_length = refl;
+  table_length = refl;
+  number_length = refl;
+  joined = refl;
+}

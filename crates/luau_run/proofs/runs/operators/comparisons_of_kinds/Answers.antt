@@ -1,0 +1,23 @@
+use Rattle.std.proofs.Common.{refl}
+use Rattle.luau_run.specs.Machine.{◌>>=◌, give, fail, spend, step, log, look, change, ask, catch, write_field, activate}
+use Rattle.luau_run.specs.Operators.{anything}
+use Rattle.luau_run.specs.Calls.{acts, call_builtin, call, require}
+use Rattle.luau_run.specs.Expressions.{values}
+use Rattle.luau_run.specs.Loops.{turns}
+use Rattle.luau_run.specs.Statements.{stat}
+use Rattle.luau_run.proofs.runs.operators.comparisons_of_kinds.Goals as goal
+
+pub returns : goal.returns
+unfolding ◌>>=◌ give fail spend step log look change ask catch write_field activate anything acts call_builtin call require values turns stat
+returns c = record {
+  strings_ordered = refl;
+  kinds_not_ordered = refl;
+  numbers_equal = refl;
+  closures_equal = refl;
+  strings_equal = refl;
+  strings_unequal = refl;
+  booleans_differ = refl;
+  kinds_differ = refl;
+  truths = refl;
+  not_false = refl;
+}

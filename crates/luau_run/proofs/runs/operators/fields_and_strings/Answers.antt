@@ -1,0 +1,23 @@
+use Rattle.std.proofs.Common.{refl}
+use Rattle.luau_run.specs.Machine.{◌>>=◌, give, fail, spend, step, log, look, change, ask, catch, write_field, activate}
+use Rattle.luau_run.specs.Operators.{anything}
+use Rattle.luau_run.specs.Calls.{acts, call_builtin, call, require}
+use Rattle.luau_run.specs.Expressions.{values}
+use Rattle.luau_run.specs.Loops.{turns}
+use Rattle.luau_run.specs.Statements.{stat}
+use Rattle.luau_run.proofs.runs.operators.fields_and_strings.Goals as goal
+
+pub returns : goal.returns
+unfolding ◌>>=◌ give fail spend step log look change ask catch write_field activate anything acts call_builtin call require values turns stat
+returns c = record {
+  library = refl;
+  keyed = refl;
+  keyed_fails = refl;
+  string_field = refl;
+  no_string_field = refl;
+  string_element = refl;
+  interpolation = refl;
+  interpolation_is_a_string = refl;
+  interpolation_trace = refl;
+  interpolation_steps = refl;
+}
