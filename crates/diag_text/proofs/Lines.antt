@@ -9,7 +9,8 @@ use Rattle.std.specs.FinMap.{IsAntisymmetric, nat_cmp-IsAntisymmetric, slice_cmp
 use Rattle.diag_text.specs.declared.line.Line.{Line}
 use Rattle.diag_text.specs.declared.line.LineKind.{LineKind}
 use Rattle.diag_text.specs.declared.line.LineKind.TheVariants.{Refused, Skipped, Argument, Missing, Operand, Value, Parameter}
-use Rattle.diag_text.specs.Line.{bytes_cmp, line_cmp, kind_rank}
+use Rattle.luau_tree.specs.Sorted.{bytes_cmp}
+use Rattle.diag_text.specs.Line.{line_cmp, kind_rank}
 
 -- a kind is known by its rank
 kind_at : ℕ → LineKind

@@ -2,11 +2,11 @@
 use Rattle.std.specs.Prelude.{ℕ, ◌≤◌, ◌≢◌, ◌==◌, ◌||◌, nat_lt, if◌then◌else◌, List, ◌++◌, map, codes, decimal}
 use Rattle.std.specs.declared.cmp.Ordering.{Ordering}
 use Rattle.std.specs.Ordering.{nat_cmp, on, then_cmp}
-use Rattle.std.specs.Cmp.Lexicographic.{slice_cmp}
 use Rattle.diag_text.specs.declared.line.Line.{Line}
 use Rattle.diag_text.specs.declared.line.LineKind.{LineKind}
 use Rattle.diag_text.specs.declared.line.LineKind.TheVariants.{Refused, Skipped, Argument, Missing, Operand, Value, Parameter}
-use Rattle.diag_text.specs.Sorted.{sorted_by}
+use Rattle.luau_tree.specs.Sorted.{sorted_by}
+pub use Rattle.luau_tree.specs.Sorted.{bytes_cmp}
 
 -- a byte as a text line shows it: a control character, which is below 32 or 127, as `?`
 abbrev pub printable_byte : ℕ → ℕ
@@ -33,10 +33,6 @@ kind_rank Missing = 3
 kind_rank Operand = 4
 kind_rank Value = 5
 kind_rank Parameter = 6
-
--- bytes are compared from the first on, and a beginning comes before the whole
-abbrev pub bytes_cmp : List ℕ → List ℕ → Ordering
-bytes_cmp = slice_cmp nat_cmp
 
 -- lines are compared by their paths, then their lines, their columns, their kinds and their messages
 abbrev pub line_cmp : Line → Line → Ordering

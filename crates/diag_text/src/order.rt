@@ -4,7 +4,7 @@ ghost use Rattle.std.specs.declared.cmp.Ordering.TheVariants.{Equal};
 ghost use Rattle.diag_text.specs.Line.{line_cmp, sorted_lines};
 
 use crate::line::Line;
-use crate::sorting::sort_once;
+use luau_tree::sort_once;
 use std::alloc::AllocError;
 
 /// The lines in the order of path, place, kind and message, each once. Sorts in place and takes no memory, so

@@ -1,1 +1,5 @@
 pub mod Places
+pub mod Views
+pub mod ListLemmas
+pub mod SortedLemmas
+pub mod PathLemmas

@@ -21,55 +21,55 @@ use Rattle.luau_tree.specs.Tree.{Block, Stat, StatKind, Arms, MaybeBlock, Expr, 
 use Rattle.luau_tree.specs.Tree as plain
 
 -- a layer of the tree, with plain parts
-abbrev stats : List Stat → Block
+abbrev pub stats : List Stat → Block
 stats [] = plain.no_stats
 stats (x ∷ xs) = plain.more_stats x (stats xs)
 
-abbrev exprs : List Expr → Exprs
+abbrev pub exprs : List Expr → Exprs
 exprs [] = plain.no_exprs
 exprs (x ∷ xs) = plain.more_exprs x (exprs xs)
 
-abbrev items : List Item → Items
+abbrev pub items : List Item → Items
 items [] = plain.no_items
 items (x ∷ xs) = plain.more_items x (items xs)
 
-abbrev binds : List Bind → Binds
+abbrev pub binds : List Bind → Binds
 binds [] = plain.no_binds
 binds (x ∷ xs) = plain.more_binds x (binds xs)
 
-abbrev gens : List Gen → Gens
+abbrev pub gens : List Gen → Gens
 gens [] = plain.no_gens
 gens (x ∷ xs) = plain.more_gens x (gens xs)
 
-abbrev types : List TypeSyntax → TypeSyntaxes
+abbrev pub types : List TypeSyntax → TypeSyntaxes
 types [] = plain.no_types
 types (x ∷ xs) = plain.more_types x (types xs)
 
-abbrev props : List Prop → Props
+abbrev pub props : List Prop → Props
 props [] = plain.no_props
 props (x ∷ xs) = plain.more_props x (props xs)
 
-abbrev arms : List (Expr × Block) → Arms
+abbrev pub arms : List (Expr × Block) → Arms
 arms [] = plain.no_arms
 arms (x ∷ xs) = plain.more_arms x.0 x.1 (arms xs)
 
-abbrev choices : List (Expr × Expr) → Choices
+abbrev pub choices : List (Expr × Expr) → Choices
 choices [] = plain.no_choices
 choices (x ∷ xs) = plain.more_choices x.0 x.1 (choices xs)
 
-abbrev maybe_block : Option Block → MaybeBlock
+abbrev pub maybe_block : Option Block → MaybeBlock
 maybe_block None = plain.no_block
 maybe_block (Some x) = plain.a_block x
 
-abbrev maybe_expr : Option Expr → MaybeExpr
+abbrev pub maybe_expr : Option Expr → MaybeExpr
 maybe_expr None = plain.no_expr
 maybe_expr (Some x) = plain.an_expr x
 
-abbrev maybe_type : Option TypeSyntax → MaybeType
+abbrev pub maybe_type : Option TypeSyntax → MaybeType
 maybe_type None = plain.no_type
 maybe_type (Some x) = plain.a_type x
 
-abbrev varargs_of : Option (Option TypeSyntax) → Varargs
+abbrev pub varargs_of : Option (Option TypeSyntax) → Varargs
 varargs_of None = plain.no_varargs
 varargs_of (Some x) = plain.varargs (maybe_type x)
 
@@ -169,66 +169,120 @@ abbrev type_of : TypeSyntax-F ExprKind Item PropKey StatKind TypeKind (Expr × B
 type_of x = plain.the_type x.span x.kind
 
 -- The plain tree of each part of a tree. An arm or a choice has none of its own, and is the pair of its parts.
-abbrev pub view_block : code.Block.Block → Block
+unfoldable pub view_block : code.Block.Block → Block
 view_block = code.Block.fold-Block ExprKind Item PropKey StatKind TypeKind (Expr × Block) Bind Block Body (Expr × Expr) Expr Gen Prop Stat TypeSyntax
     expr_kind item prop_key stat_kind type_kind arm bind_of block_of body_of choice expr_of gen_of prop_of stat_of type_of
 
-abbrev pub view_stat : code.Stat.Stat → Stat
+unfoldable pub view_stat : code.Stat.Stat → Stat
 view_stat = code.Stat.fold-Stat ExprKind Item PropKey StatKind TypeKind (Expr × Block) Bind Block Body (Expr × Expr) Expr Gen Prop Stat TypeSyntax
     expr_kind item prop_key stat_kind type_kind arm bind_of block_of body_of choice expr_of gen_of prop_of stat_of type_of
 
-abbrev pub view_expr : code.Expr.Expr → Expr
+unfoldable pub view_expr : code.Expr.Expr → Expr
 view_expr = code.Expr.fold-Expr ExprKind Item PropKey StatKind TypeKind (Expr × Block) Bind Block Body (Expr × Expr) Expr Gen Prop Stat TypeSyntax
     expr_kind item prop_key stat_kind type_kind arm bind_of block_of body_of choice expr_of gen_of prop_of stat_of type_of
 
-abbrev pub view_body : code.Body.Body → Body
+unfoldable pub view_body : code.Body.Body → Body
 view_body = code.Body.fold-Body ExprKind Item PropKey StatKind TypeKind (Expr × Block) Bind Block Body (Expr × Expr) Expr Gen Prop Stat TypeSyntax
     expr_kind item prop_key stat_kind type_kind arm bind_of block_of body_of choice expr_of gen_of prop_of stat_of type_of
 
-abbrev pub view_type : code.TypeSyntax.TypeSyntax → TypeSyntax
+unfoldable pub view_type : code.TypeSyntax.TypeSyntax → TypeSyntax
 view_type = code.TypeSyntax.fold-TypeSyntax ExprKind Item PropKey StatKind TypeKind (Expr × Block) Bind Block Body (Expr × Expr) Expr Gen Prop Stat TypeSyntax
     expr_kind item prop_key stat_kind type_kind arm bind_of block_of body_of choice expr_of gen_of prop_of stat_of type_of
 
-abbrev pub view_bind : code.Bind.Bind → Bind
+unfoldable pub view_bind : code.Bind.Bind → Bind
 view_bind = code.Bind.fold-Bind ExprKind Item PropKey StatKind TypeKind (Expr × Block) Bind Block Body (Expr × Expr) Expr Gen Prop Stat TypeSyntax
     expr_kind item prop_key stat_kind type_kind arm bind_of block_of body_of choice expr_of gen_of prop_of stat_of type_of
 
-abbrev pub view_item : code.Item.Item → Item
+unfoldable pub view_item : code.Item.Item → Item
 view_item = code.Item.fold-Item ExprKind Item PropKey StatKind TypeKind (Expr × Block) Bind Block Body (Expr × Expr) Expr Gen Prop Stat TypeSyntax
     expr_kind item prop_key stat_kind type_kind arm bind_of block_of body_of choice expr_of gen_of prop_of stat_of type_of
 
-abbrev pub view_gen : code.Gen.Gen → Gen
+unfoldable pub view_gen : code.Gen.Gen → Gen
 view_gen = code.Gen.fold-Gen ExprKind Item PropKey StatKind TypeKind (Expr × Block) Bind Block Body (Expr × Expr) Expr Gen Prop Stat TypeSyntax
     expr_kind item prop_key stat_kind type_kind arm bind_of block_of body_of choice expr_of gen_of prop_of stat_of type_of
 
-abbrev pub view_prop : code.Prop.Prop → Prop
+unfoldable pub view_prop : code.Prop.Prop → Prop
 view_prop = code.Prop.fold-Prop ExprKind Item PropKey StatKind TypeKind (Expr × Block) Bind Block Body (Expr × Expr) Expr Gen Prop Stat TypeSyntax
     expr_kind item prop_key stat_kind type_kind arm bind_of block_of body_of choice expr_of gen_of prop_of stat_of type_of
 
-abbrev pub view_expr_kind : code.ExprKind.ExprKind → ExprKind
+unfoldable pub view_expr_kind : code.ExprKind.ExprKind → ExprKind
 view_expr_kind = code.ExprKind.fold-ExprKind ExprKind Item PropKey StatKind TypeKind (Expr × Block) Bind Block Body (Expr × Expr) Expr Gen Prop Stat TypeSyntax
     expr_kind item prop_key stat_kind type_kind arm bind_of block_of body_of choice expr_of gen_of prop_of stat_of type_of
 
-abbrev pub view_stat_kind : code.StatKind.StatKind → StatKind
+unfoldable pub view_stat_kind : code.StatKind.StatKind → StatKind
 view_stat_kind = code.StatKind.fold-StatKind ExprKind Item PropKey StatKind TypeKind (Expr × Block) Bind Block Body (Expr × Expr) Expr Gen Prop Stat TypeSyntax
     expr_kind item prop_key stat_kind type_kind arm bind_of block_of body_of choice expr_of gen_of prop_of stat_of type_of
 
-abbrev pub view_type_kind : code.TypeKind.TypeKind → TypeKind
+unfoldable pub view_type_kind : code.TypeKind.TypeKind → TypeKind
 view_type_kind = code.TypeKind.fold-TypeKind ExprKind Item PropKey StatKind TypeKind (Expr × Block) Bind Block Body (Expr × Expr) Expr Gen Prop Stat TypeSyntax
     expr_kind item prop_key stat_kind type_kind arm bind_of block_of body_of choice expr_of gen_of prop_of stat_of type_of
 
-abbrev pub view_prop_key : code.PropKey.PropKey → PropKey
+unfoldable pub view_prop_key : code.PropKey.PropKey → PropKey
 view_prop_key = code.PropKey.fold-PropKey ExprKind Item PropKey StatKind TypeKind (Expr × Block) Bind Block Body (Expr × Expr) Expr Gen Prop Stat TypeSyntax
     expr_kind item prop_key stat_kind type_kind arm bind_of block_of body_of choice expr_of gen_of prop_of stat_of type_of
 
-abbrev pub view_arm : code.Arm.Arm → Expr × Block
+unfoldable pub view_arm : code.Arm.Arm → Expr × Block
 view_arm = code.Arm.fold-Arm ExprKind Item PropKey StatKind TypeKind (Expr × Block) Bind Block Body (Expr × Expr) Expr Gen Prop Stat TypeSyntax
     expr_kind item prop_key stat_kind type_kind arm bind_of block_of body_of choice expr_of gen_of prop_of stat_of type_of
 
-abbrev pub view_choice : code.Choice.Choice → Expr × Expr
+unfoldable pub view_choice : code.Choice.Choice → Expr × Expr
 view_choice = code.Choice.fold-Choice ExprKind Item PropKey StatKind TypeKind (Expr × Block) Bind Block Body (Expr × Expr) Expr Gen Prop Stat TypeSyntax
     expr_kind item prop_key stat_kind type_kind arm bind_of block_of body_of choice expr_of gen_of prop_of stat_of type_of
 
 -- a module is the block of its own body
 abbrev pub view_module : code.Module.Module → Block
 view_module m = view_block m.block
+
+-- The plain lists of parts: one for each part, in order.
+abbrev pub view_stats : List code.Stat.Stat → Block
+view_stats [] = plain.no_stats
+view_stats (x ∷ xs) = plain.more_stats (view_stat x) (view_stats xs)
+
+abbrev pub view_exprs : List code.Expr.Expr → Exprs
+view_exprs [] = plain.no_exprs
+view_exprs (x ∷ xs) = plain.more_exprs (view_expr x) (view_exprs xs)
+
+abbrev pub view_items : List code.Item.Item → Items
+view_items [] = plain.no_items
+view_items (x ∷ xs) = plain.more_items (view_item x) (view_items xs)
+
+abbrev pub view_binds : List code.Bind.Bind → Binds
+view_binds [] = plain.no_binds
+view_binds (x ∷ xs) = plain.more_binds (view_bind x) (view_binds xs)
+
+abbrev pub view_gens : List code.Gen.Gen → Gens
+view_gens [] = plain.no_gens
+view_gens (x ∷ xs) = plain.more_gens (view_gen x) (view_gens xs)
+
+abbrev pub view_types : List code.TypeSyntax.TypeSyntax → TypeSyntaxes
+view_types [] = plain.no_types
+view_types (x ∷ xs) = plain.more_types (view_type x) (view_types xs)
+
+abbrev pub view_props : List code.Prop.Prop → Props
+view_props [] = plain.no_props
+view_props (x ∷ xs) = plain.more_props (view_prop x) (view_props xs)
+
+abbrev pub view_arms : List code.Arm.Arm → Arms
+view_arms [] = plain.no_arms
+view_arms (x ∷ xs) = plain.more_arms (view_arm x).0 (view_arm x).1 (view_arms xs)
+
+abbrev pub view_choices : List code.Choice.Choice → Choices
+view_choices [] = plain.no_choices
+view_choices (x ∷ xs) = plain.more_choices (view_choice x).0 (view_choice x).1 (view_choices xs)
+
+-- The plain tree of a part that may be missing.
+abbrev pub view_maybe_block : Option code.Block.Block → MaybeBlock
+view_maybe_block None = plain.no_block
+view_maybe_block (Some x) = plain.a_block (view_block x)
+
+abbrev pub view_maybe_expr : Option code.Expr.Expr → MaybeExpr
+view_maybe_expr None = plain.no_expr
+view_maybe_expr (Some x) = plain.an_expr (view_expr x)
+
+abbrev pub view_maybe_type : Option code.TypeSyntax.TypeSyntax → MaybeType
+view_maybe_type None = plain.no_type
+view_maybe_type (Some x) = plain.a_type (view_type x)
+
+abbrev pub view_varargs : Option (Option code.TypeSyntax.TypeSyntax) → Varargs
+view_varargs None = plain.no_varargs
+view_varargs (Some x) = plain.varargs (view_maybe_type x)

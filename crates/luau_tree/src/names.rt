@@ -1,5 +1,3 @@
-use crate::containers::{Bytes, List};
-
 /// The number of an expression in its module.
 #[derive(Clone, Copy, Debug, PartialEq, Eq, PartialOrd, Ord)]
 pub struct ExprId(pub u32);
@@ -71,11 +69,4 @@ pub enum Access {
     Both,
     Read,
     Write,
-}
-
-/// The paths of declared builtins. They are to be sorted by their bytes and without repeats, so that one is found by
-/// halving. Nothing makes one yet, and so nothing keeps this: the type stands ahead of its calls.
-#[derive(Debug, Drop)]
-pub struct PathSet {
-    paths: List<Bytes>,
 }

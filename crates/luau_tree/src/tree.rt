@@ -333,6 +333,3 @@ pub enum PropKey {
     /// `[K]: T`
     Indexer(TypeSyntax),
 }
-
-#[cfg(test)]
-mod tests;

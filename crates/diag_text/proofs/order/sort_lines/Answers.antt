@@ -8,8 +8,8 @@ use Rattle.diag_text.specs.declared.line.LineKind.{LineKind}
 use Rattle.diag_text.specs.declared.line.LineKind.TheVariants.{Refused, Skipped, Argument, Missing, Operand, Value, Parameter}
 use Rattle.diag_text.specs.contracts.line.LineOrd.TheImpl as lines
 use Rattle.diag_text.specs.contracts.line.LineKindOrd.TheImpl as kinds
-use Rattle.diag_text.specs.Line.{bytes_cmp, kind_rank, line_cmp}
-use Rattle.diag_text.specs.Sorted.{sorted_by}
+use Rattle.luau_tree.specs.Sorted.{bytes_cmp, sorted_by}
+use Rattle.diag_text.specs.Line.{kind_rank, line_cmp}
 use Rattle.diag_text.proofs.Lines.{same_line}
 use Rattle.diag_text.proofs.order.sort_lines.Goals as goal
 

@@ -14,7 +14,7 @@ use Rattle.std.proofs.lemmas.List.Folds.{Any-from_list_any, list_any_at}
 use Rattle.std.proofs.lemmas.List.Kept.{IsStrictlySortedBy-dedup, Contains-dedup, Contains-from_dedup}
 use Rattle.std.proofs.lemmas.List.Sorted.{Contains-permutation, IsPermutation-sym}
 use Rattle.std.proofs.lemmas.Map.Keys.{Less-from_sorted, sorted_from_all_adjacent}
-use Rattle.diag_text.specs.Sorted.{sorted_by}
+use Rattle.luau_tree.specs.Sorted.{sorted_by}
 
 -- whether a member of xs ties with q
 abbrev has : {K : Type 0} → (K → K → Ordering) → List K → K → Bool

@@ -5,7 +5,7 @@ ghost use Rattle.std.specs.FinMap.{IsAntisymmetric};
 ghost use Rattle.std.specs.List.Sorted.{IsSorted};
 ghost use Rattle.std.specs.declared.cmp.Ordering.{Ordering};
 ghost use Rattle.std.specs.declared.cmp.Ordering.TheVariants.{Less};
-ghost use Rattle.diag_text.specs.Sorted.{sorted_by};
+ghost use Rattle.luau_tree.specs.Sorted.{sorted_by};
 
 /// The values in their order, each once, where only equal values tie. Sorts in place and takes no memory.
 pub fn sort_once<T: Ord + Drop>(values: Vec<T>) -> Vec<T>

@@ -2,8 +2,8 @@ use Rattle.std.proofs.Common.{Bool, List, ◌∙◌, ap, sym, subst}
 use Rattle.std.specs.List.{dedup}
 use Rattle.std.specs.List.Sorted.{IsSorted}
 use Rattle.std.proofs.lemmas.List.Filters.{dedup_is}
-use Rattle.diag_text.proofs.Sorted.{sorted_and_deduped, sorted_by-IsSorted}
-use Rattle.diag_text.proofs.sorting.sort_once.Goals as goal
+use Rattle.luau_tree.proofs.SortedLemmas.{sorted_and_deduped, sorted_by-IsSorted}
+use Rattle.luau_tree.proofs.sorting.sort_once.Goals as goal
 
 -- `==` holds where two values tie
 pub returns-clause-values : goal.returns-clause-values

@@ -1,5 +1,0 @@
-use Rattle.diag_text.proofs.Sorted.{all_there, no_other}
-use Rattle.diag_text.proofs.sorting.sorted_values_are_the_values.Goals as goal
-
-pub returns : goal.returns
-returns g c = λ cmp o exact values value. (no_other o exact values value, all_there o exact values value)
