@@ -1,7 +1,7 @@
 -- Where a long bracket closes, by index.
 use Rattle.std.proofs.Common.{◌≡◌, ℕ, zero, suc, ◌<◌, true, false, cond, List, [], ◌∷◌, length, drop, Bool, Option, subst, Some, None, ap, ◌∙◌, refl, arith}
 use Rattle.std.specs.Prelude.{option_map}
-use Rattle.luau_lex.specs.Brackets.{closes, closing_place}
+use Rattle.luau_lex.specs.Computed.Brackets.{closes, closing_place}
 
 -- it closes at the first place where it can
 pub closing_found : (signs : ℕ) (xs : List ℕ) (i : ℕ) → i < length xs → ((k : ℕ) → k < i → closes signs (drop k xs) ≡ false) → closes signs (drop i xs) ≡ true → closing_place signs xs ≡ Some i

@@ -9,16 +9,18 @@ use Rattle.luau_lex.specs.declared.piece.Piece.{Piece}
 use Rattle.luau_lex.specs.declared.piece.Piece.TheVariants.{Gap, Found, Faulty}
 use Rattle.luau_lex.specs.declared.piece.Open.{Open}
 use Rattle.luau_lex.specs.Bytes.{bracket, backquote, brace, closing_brace}
-use Rattle.luau_lex.specs.Brackets.{level, closing_place}
-use Rattle.luau_lex.specs.Strings.{inside_len, malformed_at}
-use Rattle.luau_lex.specs.Pieces.{unless_malformed, part_piece, long_of, long_piece, bracket_or_sign, part_open, innermost, closing_piece, piece, opens_behind}
-use Rattle.luau_lex.specs.Tokens.{Tok, token_at, with_token, first_line_len}
-use Rattle.luau_lex.specs.Grammar.{StandsHere, Reads, HasTokens, StandInOrder}
+use Rattle.luau_lex.specs.Computed.Brackets.{level, closing_place}
+use Rattle.luau_lex.specs.Computed.Strings.{inside_len, malformed_at}
+use Rattle.luau_lex.specs.Computed.Pieces.{unless_malformed, part_piece, long_of, long_piece, bracket_or_sign, part_open, innermost, closing_piece, piece, opens_behind}
+use Rattle.luau_lex.specs.Token.{Tok}
+use Rattle.luau_lex.specs.Computed.Tokens.{token_at, with_token}
+use Rattle.luau_lex.specs.Places.{first_line_len, StandInOrder}
+use Rattle.luau_lex.specs.Computed.Reads.{StandsHere, Reads, HasTokens}
 use Rattle.luau_lex.specs.Forms.{HasForm, NoneOpens}
 use Rattle.luau_lex.specs.LongestTokens.{leaves_string, StandClear}
 use Rattle.luau_lex.proofs.LongLemmas.{level_bracket}
 use Rattle.luau_lex.proofs.FormLemmas.{choose, unless_found, begins_with, piece_form}
-use Rattle.luau_lex.proofs.OrderLemmas.{left_behind, reads_order}
+use Rattle.luau_lex.proofs.OrderLemmas.{left_behind}
 use Rattle.luau_lex.proofs.PlaceLemmas.{front_byte, at_backquote, at_closing, at_bracket, opens_byte}
 use Rattle.luau_lex.proofs.TokenLemmas.{sign_kind}
 
@@ -84,7 +86,7 @@ kind_clear Whole ob at text n least form is leaves = absurd (cc)
 kind_clear End ob at text n least form is leaves = absurd (cc)
 kind_clear Sign ob at text n least form is leaves = absurd (cc)
 
-clear_behind : (at n : ℕ) (text : List ℕ) (ts : List Tok) → StandInOrder (at + n) (drop n text) ts → StandClear (at + n) (drop n text) ts → StandClear at text ts
+pub clear_behind : (at n : ℕ) (text : List ℕ) (ts : List Tok) → StandInOrder (at + n) (drop n text) ts → StandClear (at + n) (drop n text) ts → StandClear at text ts
 clear_behind at n text [] order h = tt
 clear_behind at n text (t ∷ ts) order h =
     let ends = left_behind at n t.span.end text (omega (arith, order.0, order.1)) in (
@@ -93,7 +95,7 @@ clear_behind at n text (t ∷ ts) order h =
       subst (λ l. StandClear t.span.end l ts) ends h.2,
     )
 
-clear_token : (opens : List Open) (kind : Kind) (at n : ℕ) (text : List ℕ) (ts : List Tok) → StandsHere opens at text (Found kind n) → StandClear (at + n) (drop n text) ts → StandClear at text (token_at kind n at text ∷ ts)
+pub clear_token : (opens : List Open) (kind : Kind) (at n : ℕ) (text : List ℕ) (ts : List Tok) → StandsHere opens at text (Found kind n) → StandClear (at + n) (drop n text) ts → StandClear at text (token_at kind n at text ∷ ts)
 clear_token opens kind at n text ts stands h =
     let width : at + n - at ≡ n = omega arith in
     let none : at - at ≡ 0 = omega arith in
@@ -102,23 +104,3 @@ clear_token opens kind at n text ts stands h =
       (λ leaves. subst (λ k. slice_index (drop k text) 0 ≢ brace) (sym width) (kind_clear kind ob at text n stands.within.0 (piece_form ob at text kind n stands.some stands.here) stands.here leaves)),
       subst (λ k. StandClear (at + n) (drop k text) ts) (sym width) h,
     )
-
-clear_found : (opens : List Open) (kind : Kind) (at n : ℕ) (text : List ℕ) (ts : List Tok) (rest : Result (List Tok) LexError) → StandsHere opens at text (Found kind n) → ((us : List Tok) → rest ≡ Ok us → StandClear (at + n) (drop n text) us) → Ok ts ≡ with_token (token_at kind n at text) rest → StandClear at text ts
-clear_found opens kind at n text ts (Ok us) stands more is =
-    let same : token_at kind n at text ∷ us ≡ ts = cc in
-    subst (StandClear at text) same (clear_token opens kind at n text us stands (more us refl))
-clear_found opens kind at n text ts (Err e) stands more is = absurd (cc)
-
-reads_clear : (opens : List Open) (at : ℕ) (text : List ℕ) (ps : List Piece) (r : Result (List Tok) LexError) (ts : List Tok) → r ≡ Ok ts → Reads opens at text ps r → StandClear at text ts
-reads_clear opens at text [] r ts is h = let none : [] ≡ ts = cc in subst (StandClear at text) none tt
-reads_clear opens at text (Gap n ∷ ps) r ts is h =
-    clear_behind at n text ts (reads_order opens (at + n) (drop n text) ps r ts is h.1) (reads_clear opens (at + n) (drop n text) ps r ts is h.1)
-reads_clear opens at text (Found kind n ∷ ps) r ts is h =
-    clear_found opens kind at n text ts h.0 h.1
-    (λ us same. reads_clear (opens_behind opens at kind (slice_index text 0)) (at + n) (drop n text) ps h.0 us same h.2)
-    (sym is ∙ h.3)
-reads_clear opens at text (Faulty e ∷ ps) r ts is h = absurd (cc)
-
--- the tokens of a text stand clear
-pub tokens_clear : (text : List ℕ) (ts : List Tok) → HasTokens text (Ok ts) → StandClear (first_line_len text) (drop (first_line_len text) text) ts
-tokens_clear text ts h = reads_clear [] (first_line_len text) (drop (first_line_len text) text) h.0 (Ok ts) ts refl h.1

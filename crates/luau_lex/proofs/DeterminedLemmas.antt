@@ -9,9 +9,9 @@ use Rattle.luau_lex.specs.declared.piece.Piece.TheVariants.{Gap}
 use Rattle.luau_lex.specs.declared.piece.Open.{Open}
 use Rattle.luau_lex.specs.Bytes.{line_feed, bracket, double_quote, single_quote, equals, minus, is_blank, is_name_start, is_no_line_feed}
 use Rattle.luau_lex.specs.Numerals.{begins_numeral}
-use Rattle.luau_lex.specs.Brackets.{level, closing_place}
-use Rattle.luau_lex.specs.Pieces.{name_piece, numeral_piece, quoted_piece, other_piece, long_len, long_comment_of, comment_of, innermost, piece}
-use Rattle.luau_lex.specs.Tokens.{tokens_from}
+use Rattle.luau_lex.specs.Computed.Brackets.{level, closing_place}
+use Rattle.luau_lex.specs.Computed.Pieces.{name_piece, numeral_piece, quoted_piece, other_piece, long_len, long_comment_of, comment_of, innermost, piece}
+use Rattle.luau_lex.specs.Computed.Tokens.{tokens_from}
 use Rattle.luau_lex.specs.Forms.{bracket_of, IsLong, NoneOpens, EndsLine, IsGapPart, IsGapOf, IsGap}
 use Rattle.luau_lex.proofs.SpellingLemmas.{and_at}
 use Rattle.luau_lex.proofs.InsideLemmas.{case_of}

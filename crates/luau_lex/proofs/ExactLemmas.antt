@@ -13,35 +13,38 @@ use Rattle.luau_lex.specs.declared.piece.Piece.{Piece}
 use Rattle.luau_lex.specs.declared.piece.Piece.TheVariants.{Gap, Found, Faulty}
 use Rattle.luau_lex.specs.declared.piece.Open.{Open}
 use Rattle.luau_lex.specs.Bytes.{backslash, bracket, dot, double_quote, single_quote, minus, backquote, brace, closing_brace, is_blank, is_name_start, is_name_byte, is_digit_or_underscore}
-use Rattle.luau_lex.specs.Names.{is_listed, reserved_words, name_kind}
-use Rattle.luau_lex.specs.Numerals.{begins_numeral, numeral_len, is_exponent_or_none, after_fraction, is_decimal, is_numeral}
-use Rattle.luau_lex.specs.Signs.{sign_len, sign_len_of, is_sign}
-use Rattle.luau_lex.specs.Brackets.{level, closing_place}
-use Rattle.luau_lex.specs.Strings.{ends_inside, inside_len}
-use Rattle.luau_lex.specs.Pieces.{name_piece, numeral_piece, quoted_piece, part_piece, long_len, comment_piece, sign_piece, bracket_or_sign, part_open, innermost, closing_piece, other_piece, piece}
-use Rattle.luau_lex.specs.Grammar.{Longest, is_name}
+use Rattle.luau_lex.specs.Names.{is_listed, reserved_words, is_name}
+use Rattle.luau_lex.specs.Computed.Pieces.{name_kind, name_piece, numeral_piece, quoted_piece, part_piece, long_len, comment_piece, sign_piece, bracket_or_sign, part_open, innermost, closing_piece, other_piece, piece}
+use Rattle.luau_lex.specs.Numerals.{begins_numeral}
+use Rattle.luau_lex.specs.Computed.Numerals.{numeral_len, is_exponent_or_none, after_fraction, is_decimal, is_numeral}
+use Rattle.luau_lex.specs.Computed.Signs.{sign_len, sign_len_of}
+use Rattle.luau_lex.specs.Signs.{is_sign}
+use Rattle.luau_lex.specs.Computed.Brackets.{level, closing_place}
+use Rattle.luau_lex.specs.Computed.Strings.{ends_inside, inside_len}
+use Rattle.luau_lex.proofs.LongestLemmas.{Longest}
 use Rattle.luau_lex.specs.Forms.{IsMarked, IsLong, HasForm, NoneOpens}
 use Rattle.luau_lex.specs.Braces.{string_open, goes_on_with_string, MayStand}
 use Rattle.luau_lex.specs.LongestTokens.{NoLongerToken, NoLongerWord, NoComment, leaves_string}
-use Rattle.luau_lex.proofs.SpellingLemmas.{and_at, run_least}
+use Rattle.luau_lex.proofs.SpellingLemmas.{or_at, and_at, run_least}
 use Rattle.luau_lex.proofs.LongestLemmas.{name_longest}
 use Rattle.luau_lex.proofs.SignLemmas.{sign_longest}
 use Rattle.luau_lex.proofs.LongLemmas.{long_again}
 use Rattle.luau_lex.proofs.RefuseLemmas.{marked_again}
 use Rattle.luau_lex.proofs.WordLemmas.{word_longest, word_there, numeral_word}
-use Rattle.luau_lex.proofs.FormLemmas.{or_at, begins_with, name_kind_form, begins_front, digits_most}
+use Rattle.luau_lex.proofs.FormLemmas.{begins_with, name_kind_form, begins_front, digits_most}
 use Rattle.luau_lex.proofs.ExistLemmas.{numeral_len_within}
+use Rattle.luau_lex.proofs.NumeralLemmas.{numeral_form_is, numeral_is_read}
 use Rattle.luau_lex.proofs.PlaceLemmas.{at_name, at_numeral, at_double, at_single, at_backquote, at_bracket, first_append, begins_append, quoted_exact, last_exact, further_exact, long_exact, opens_byte}
 use Rattle.luau_lex.proofs.LongestTokenLemmas.{name_no_sign, digit_no_sign, digit_behind_dot, blank_no_sign, some_of, closing_start, sign_most}
 use Rattle.luau_lex.proofs.FaultLemmas.{opened_whole}
 use Rattle.luau_lex.proofs.TokenLemmas.{outward, innermost_is}
 
-false_of : (t : Bool) → (t ≡ true → ⊥) → t ≡ false
+pub false_of : (t : Bool) → (t ≡ true → ⊥) → t ≡ false
 false_of true h = absurd (h refl)
 false_of false h = refl
 
 -- a front that no longer one is like is as long as this
-no_more : (n m : ℕ) → n ≤ m → (n < m → ⊥) → m ≡ n
+pub no_more : (n m : ℕ) → n ≤ m → (n < m → ⊥) → m ≡ n
 no_more n m least longer = elim (order n m) [ inl lt ↦ absurd (longer lt) | inr le ↦ omega arith ]
 
 named_stays : (t : Bool) {C : Type 0} → goes_on_with_string (cond t Word Name) ≡ true → C
@@ -127,17 +130,17 @@ long_there ob at signs body w more form =
     ap (piece ob at) whole ∙ at_bracket ob at (drop 1 text) ∙ long_exact signs (length body) at (drop 1 text) opens' closes' ∙ ap (Found Long) width
 
 -- signs
-no_sign_first : (text : List ℕ) (k : ℕ) → 0 < sign_len text → ((b c : ℕ) → sign_len_of k b c ≡ 0) → eqb (slice_index text 0) k ≡ false
+pub no_sign_first : (text : List ℕ) (k : ℕ) → 0 < sign_len text → ((b c : ℕ) → sign_len_of k b c ≡ 0) → eqb (slice_index text 0) k ≡ false
 no_sign_first text k some none =
     ne_eqb (slice_index text 0) k
     (λ same. let zeroth = ap (λ a. sign_len_of a (slice_index text 1) (slice_index text 2)) same ∙ none (slice_index text 1) (slice_index text 2) in
     omega (arith, some, zeroth))
 
-no_double : (b c : ℕ) → sign_len_of double_quote b c ≡ 0
+pub no_double : (b c : ℕ) → sign_len_of double_quote b c ≡ 0
 unfolding sign_len_of
 no_double b c = refl
 
-no_single : (b c : ℕ) → sign_len_of single_quote b c ≡ 0
+pub no_single : (b c : ℕ) → sign_len_of single_quote b c ≡ 0
 unfolding sign_len_of
 no_single b c = refl
 
@@ -158,7 +161,7 @@ dot_longer braces (a ∷ []) n longer most first digit = cc
 dot_longer braces (a ∷ b ∷ text) n longer most first digit =
     let whole : a ∷ b ∷ [] ≡ dot ∷ b ∷ [] = ap (λ k. k ∷ b ∷ []) first in
     let begins : begins_numeral (dot ∷ b ∷ []) ≡ true = digit in
-    longer Numeral 2 (omega arith) (omega arith) (λ goes. absurd (cc)) (ap begins_numeral whole ∙ begins, ap is_numeral whole ∙ dot_digit b digit)
+    longer Numeral 2 (omega arith) (omega arith) (λ goes. absurd (cc)) (numeral_form_is (a ∷ b ∷ []) (ap begins_numeral whole ∙ begins) (ap is_numeral whole ∙ dot_digit b digit))
 
 no_numeral_first : (braces : List Open) (text : List ℕ) (n : ℕ) → NoLongerToken braces text n → sign_len text ≡ n → 0 < n → begins_numeral text ≡ false
 no_numeral_first braces text n longer len some =
@@ -195,7 +198,7 @@ two_there [] a b = absurd (omega (arith, a))
 two_there (x ∷ []) a b = absurd (omega (arith, b))
 two_there (x ∷ y ∷ text) a b = (text, ap (λ k. k ∷ y ∷ text) a ∙ ap (λ k. minus ∷ k ∷ text) b)
 
-other_is_sign : (ob : Option Open) (at : ℕ) (text : List ℕ) → eqb (slice_index text 0) backquote ≡ false → (slice_index text 0 ≡ closing_brace → part_open ob ≡ None) → NoComment text → NoneOpens text → other_piece ob at text ≡ sign_piece at text
+pub other_is_sign : (ob : Option Open) (at : ℕ) (text : List ℕ) → eqb (slice_index text 0) backquote ≡ false → (slice_index text 0 ≡ closing_brace → part_open ob ≡ None) → NoComment text → NoneOpens text → other_piece ob at text ≡ sign_piece at text
 unfolding other_piece
 other_is_sign ob at text back closes comment opens =
     let b = slice_index text 0 in
@@ -249,7 +252,7 @@ token_there Word braces at w more some form may closes longer word comment opens
     name_there braces (innermost (outward braces)) at w more form.0 longer
     ∙ ap (λ k. Found k (length w)) (ap name_kind (take-append_seam w more) ∙ listed_kind w form.1)
 token_there Numeral braces at w more some form may closes longer word comment opens single =
-    numeral_there (innermost (outward braces)) at w more form.0 form.1 (word refl)
+    let read = numeral_is_read w form in numeral_there (innermost (outward braces)) at w more read.0 read.1 (word refl)
 token_there Quoted braces at w more some (inl form) may closes longer word comment opens single =
     quoted_there double_quote (innermost (outward braces)) at w more (omega arith) (λ same. omega (arith, same)) refl (at_double (innermost (outward braces)) at) form
 token_there Quoted braces at w more some (inr form) may closes longer word comment opens single =

@@ -10,14 +10,16 @@ use Rattle.luau_lex.specs.declared.token.LexError.TheVariants.{UnfinishedString,
 use Rattle.luau_lex.specs.declared.piece.Piece.{Piece}
 use Rattle.luau_lex.specs.declared.piece.Piece.TheVariants.{Gap, Found, Faulty}
 use Rattle.luau_lex.specs.declared.piece.Open.{Open}
-use Rattle.luau_lex.specs.Bytes.{double_quote, single_quote, minus, backquote, brace, closing_brace, is_blank, is_name_start, is_name_byte, is_numeral_byte, is_no_line_feed}
-use Rattle.luau_lex.specs.Numerals.{begins_numeral, is_exponent_letter, is_exponent_sign, exponent_len, numeral_len, is_numeral}
-use Rattle.luau_lex.specs.Signs.{sign_len}
-use Rattle.luau_lex.specs.Brackets.{level, closing_place}
-use Rattle.luau_lex.specs.Strings.{inside_len, malformed_at}
-use Rattle.luau_lex.specs.Pieces.{name_piece, numeral_piece, unless_malformed, quoted_piece, part_piece, long_of, long_piece, long_comment_of, comment_of, comment_piece, sign_piece, bracket_or_sign, part_open, innermost, closing_piece, other_piece, piece, opens_behind}
-use Rattle.luau_lex.specs.Tokens.{tokens_from, tokens_of, first_line_len, IsWithin}
-use Rattle.luau_lex.specs.Grammar.{Reads, HasTokens}
+use Rattle.luau_lex.specs.Bytes.{double_quote, single_quote, minus, backquote, brace, closing_brace, is_blank, is_name_start, is_name_byte, is_numeral_byte, is_no_line_feed, is_exponent_letter, is_exponent_sign}
+use Rattle.luau_lex.specs.Numerals.{begins_numeral}
+use Rattle.luau_lex.specs.Computed.Numerals.{exponent_len, numeral_len, is_numeral}
+use Rattle.luau_lex.specs.Computed.Signs.{sign_len}
+use Rattle.luau_lex.specs.Computed.Brackets.{level, closing_place}
+use Rattle.luau_lex.specs.Computed.Strings.{inside_len, malformed_at}
+use Rattle.luau_lex.specs.Computed.Pieces.{name_piece, numeral_piece, unless_malformed, quoted_piece, part_piece, long_of, long_piece, long_comment_of, comment_of, comment_piece, sign_piece, bracket_or_sign, part_open, innermost, closing_piece, other_piece, piece, opens_behind}
+use Rattle.luau_lex.specs.Computed.Tokens.{tokens_from, tokens_of, IsWithin}
+use Rattle.luau_lex.specs.Places.{first_line_len}
+use Rattle.luau_lex.specs.Computed.Reads.{Reads, HasTokens}
 use Rattle.luau_lex.proofs.LongestLemmas.{run_some, start_goes_on}
 use Rattle.luau_lex.proofs.SignLemmas.{sign_longest}
 use Rattle.luau_lex.proofs.SpellingLemmas.{and_at}

@@ -12,25 +12,27 @@ use Rattle.luau_lex.specs.declared.piece.Piece.{Piece}
 use Rattle.luau_lex.specs.declared.piece.Piece.TheVariants.{Gap, Found, Faulty}
 use Rattle.luau_lex.specs.declared.piece.Open.{Open}
 use Rattle.luau_lex.specs.Bytes.{line_feed, carriage_return, bracket, closing_bracket, double_quote, single_quote, minus, backquote, brace, closing_brace, is_blank, is_name_start}
-use Rattle.luau_lex.specs.Numerals.{begins_numeral, numeral_len, is_numeral}
-use Rattle.luau_lex.specs.Signs.{sign_len}
-use Rattle.luau_lex.specs.Brackets.{level, closes, closing_place}
-use Rattle.luau_lex.specs.Strings.{ends_inside, inside_len, malformed_at}
+use Rattle.luau_lex.specs.Numerals.{begins_numeral}
+use Rattle.luau_lex.specs.Computed.Numerals.{numeral_len, is_numeral}
+use Rattle.luau_lex.specs.Computed.Signs.{sign_len}
+use Rattle.luau_lex.specs.Computed.Brackets.{level, closes, closing_place}
+use Rattle.luau_lex.specs.Computed.Strings.{ends_inside, inside_len, malformed_at}
 use Rattle.luau_lex.specs.Spellings.{written}
-use Rattle.luau_lex.specs.Pieces.{name_piece, numeral_piece, unless_malformed, quoted_piece, part_piece, long_of, long_piece, long_comment_of, comment_of, comment_piece, sign_piece, bracket_or_sign, part_open, innermost, closing_piece, other_piece, piece}
+use Rattle.luau_lex.specs.Computed.Pieces.{name_piece, numeral_piece, unless_malformed, quoted_piece, part_piece, long_of, long_piece, long_comment_of, comment_of, comment_piece, sign_piece, bracket_or_sign, part_open, innermost, closing_piece, other_piece, piece}
 use Rattle.luau_lex.specs.Forms.{bracket_of}
 use Rattle.luau_lex.specs.Braces.{string_open}
 use Rattle.luau_lex.specs.LongestTokens.{NoLongerWord}
 use Rattle.luau_lex.specs.Faults.{BeginsNothing, NeverCloses, BeginsString, HasInside, EndsString, BreaksOff, IsFault}
 use Rattle.luau_lex.proofs.BracketLemmas.{closes_never}
 use Rattle.luau_lex.proofs.SignLemmas.{sign_missing}
-use Rattle.luau_lex.proofs.SpellingLemmas.{and_at}
+use Rattle.luau_lex.proofs.SpellingLemmas.{or_at, and_at}
 use Rattle.luau_lex.proofs.InsideLemmas.{or_false, Inside, inside_spelled, inside_front, inside_end, inside_left}
 use Rattle.luau_lex.proofs.MeaningLemmas.{narrow_all, malformed_spelled, none_malformed, first_malformed}
 use Rattle.luau_lex.proofs.LongLemmas.{opens_front, closes_bracket}
 use Rattle.luau_lex.proofs.WordLemmas.{word_longest, word_there}
-use Rattle.luau_lex.proofs.FormLemmas.{choose, or_at, begins_with, begins_front, digits_most}
+use Rattle.luau_lex.proofs.FormLemmas.{choose, begins_with, begins_front, digits_most}
 use Rattle.luau_lex.proofs.ExistLemmas.{numeral_len_within, two_minus}
+use Rattle.luau_lex.proofs.NumeralLemmas.{numeral_is_read}
 use Rattle.luau_lex.proofs.TokenLemmas.{outward, innermost_is}
 
 -- a fault, told of an equal one
@@ -49,7 +51,7 @@ numeral_fault opens at text e begins is =
     choose (is_numeral (take n text)) (Found Numeral n) (Faulty (BadNumeral at)) (Faulty e) is
     (λ _ wrong. absurd (cc))
     (λ none same. fault_at opens at text (BadNumeral at) e same
-    (refl, n, numeral_len_within text, word_there text begins (begins_front text n (digits_most text) begins), no_longer_there text, none))
+    (refl, n, numeral_len_within text, word_there text begins (begins_front text n (digits_most text) begins), no_longer_there text, λ form. let wrong = (numeral_is_read (take n text) form).1 in cc))
 
 -- strings between marks
 unless_fault : {C : Type 0} (at : ℕ) (o : Option ℕ) (p : Piece) (e : LexError) → unless_malformed at o p ≡ Faulty e → (o ≡ None → p ≡ Faulty e → C) → ((k : ℕ) → o ≡ Some k → Faulty (BadEscape (at + 1 + k)) ≡ Faulty e → C) → C

@@ -11,17 +11,21 @@ use Rattle.luau_lex.specs.declared.piece.Piece.{Piece}
 use Rattle.luau_lex.specs.declared.piece.Piece.TheVariants.{Gap, Found, Faulty}
 use Rattle.luau_lex.specs.declared.piece.Open.{Open}
 use Rattle.luau_lex.specs.Bytes.{double_quote, single_quote, minus, backquote, brace, closing_brace, dot, is_blank, is_name_start, is_name_byte, is_numeral_byte}
-use Rattle.luau_lex.specs.Names.{is_listed, reserved_words, name_kind}
-use Rattle.luau_lex.specs.Numerals.{begins_numeral, numeral_len, is_numeral}
-use Rattle.luau_lex.specs.Signs.{sign_len}
-use Rattle.luau_lex.specs.Brackets.{level, closing_place}
-use Rattle.luau_lex.specs.Strings.{inside_len, malformed_at}
-use Rattle.luau_lex.specs.Pieces.{name_piece, numeral_piece, unless_malformed, quoted_piece, part_piece, long_len, long_of, long_piece, long_comment_of, comment_of, comment_piece, sign_piece, bracket_or_sign, part_open, innermost, closing_piece, other_piece, piece, opens_behind}
-use Rattle.luau_lex.specs.Tokens.{Tok, token_at, with_token, first_line_len}
-use Rattle.luau_lex.specs.Grammar.{Reads, HasTokens, is_name}
+use Rattle.luau_lex.specs.Names.{is_listed, reserved_words, is_name}
+use Rattle.luau_lex.specs.Computed.Pieces.{name_kind, name_piece, numeral_piece, unless_malformed, quoted_piece, part_piece, long_len, long_of, long_piece, long_comment_of, comment_of, comment_piece, sign_piece, bracket_or_sign, part_open, innermost, closing_piece, other_piece, piece, opens_behind}
+use Rattle.luau_lex.specs.Numerals.{begins_numeral}
+use Rattle.luau_lex.specs.Computed.Numerals.{numeral_len, is_numeral}
+use Rattle.luau_lex.specs.Computed.Signs.{sign_len}
+use Rattle.luau_lex.specs.Computed.Brackets.{level, closing_place}
+use Rattle.luau_lex.specs.Computed.Strings.{inside_len, malformed_at}
+use Rattle.luau_lex.specs.Token.{Tok}
+use Rattle.luau_lex.specs.Computed.Tokens.{token_at, with_token}
+use Rattle.luau_lex.specs.Places.{first_line_len}
+use Rattle.luau_lex.specs.Computed.Reads.{Reads, HasTokens}
 use Rattle.luau_lex.specs.Forms.{IsMarked, IsLong, HasForm, HaveForms}
 use Rattle.luau_lex.specs.Spellings.{written, AreSpellings}
-use Rattle.luau_lex.proofs.SpellingLemmas.{and_at}
+use Rattle.luau_lex.proofs.SpellingLemmas.{and_at, or_at}
+use Rattle.luau_lex.proofs.NumeralLemmas.{numeral_form_is}
 use Rattle.luau_lex.proofs.InsideLemmas.{inside_spelled, inside_front, inside_end}
 use Rattle.luau_lex.proofs.MeaningLemmas.{narrow_all, malformed_spelled, none_malformed}
 use Rattle.luau_lex.proofs.LongLemmas.{take_marked, long_here}
@@ -80,17 +84,13 @@ marked mark last (x ∷ text) some least is good =
       none_malformed r.inside (sym (malformed_spelled mark r.inside (narrow_all mark r.inside [] r.behind r.spells)) ∙ none),
     )
 
-or_right : (a b : Bool) → b ≡ true → a || b ≡ true
+pub or_right : (a b : Bool) → b ≡ true → a || b ≡ true
 or_right true b h = refl
 or_right false b h = h
 
 pub not_none : (m : ℕ) → eqb m 0 ≡ false → 0 < m
 not_none zero h = absurd (cc)
 not_none (suc m) h = omega arith
-
-pub or_at : (a b : Bool) {C : Type 0} → a || b ≡ true → (a ≡ true → C) → (b ≡ true → C) → C
-or_at true b h f g = f refl
-or_at false b h f g = g h
 
 quote_form : (mark : ℕ) (bytes : List ℕ) → (eqb mark double_quote || eqb mark single_quote) ≡ true → IsMarked mark mark mark bytes → HasForm Quoted bytes
 quote_form mark bytes h m =
@@ -197,7 +197,7 @@ unfolding numeral_piece
 numeral_form at text kind n begins is =
     let m = numeral_len text in
     choose (is_numeral (take m text)) (Found Numeral m) (Faulty (BadNumeral at)) (Found kind n) is
-    (λ yes same. form_at Numeral kind m n text same (begins_front text m (digits_most text) begins, yes))
+    (λ yes same. form_at Numeral kind m n text same (numeral_form_is (take m text) (begins_front text m (digits_most text) begins) yes))
     (λ no wrong. absurd (cc))
 
 -- what begins with none of a blank, a name, a numeral and a quote
@@ -260,22 +260,3 @@ piece_form open_brace at text kind n some is =
     (λ _ more''. choose quote (quoted_piece at text) other (Found kind n) more''
     (λ marks found. quoted_form at text kind n some marks found)
     (λ _ found. other_form open_brace at text kind n some found))))
-
--- the tokens of a text
-found_forms : (kind : Kind) (at n : ℕ) (text : List ℕ) (ts : List Tok) (rest : Result (List Tok) LexError) → HasForm kind (take n text) → ((us : List Tok) → rest ≡ Ok us → HaveForms us) → Ok ts ≡ with_token (token_at kind n at text) rest → HaveForms ts
-found_forms kind at n text ts (Ok us) form more is =
-    let same : token_at kind n at text ∷ us ≡ ts = cc in
-    subst HaveForms same (form, more us refl)
-found_forms kind at n text ts (Err e) form more is = absurd (cc)
-
-reads_forms : (opens : List Open) (at : ℕ) (text : List ℕ) (ps : List Piece) (r : Result (List Tok) LexError) (ts : List Tok) → r ≡ Ok ts → Reads opens at text ps r → HaveForms ts
-reads_forms opens at text [] r ts is h = let none : [] ≡ ts = cc in subst HaveForms none tt
-reads_forms opens at text (Gap n ∷ ps) r ts is h = reads_forms opens (at + n) (drop n text) ps r ts is h.1
-reads_forms opens at text (Found kind n ∷ ps) r ts is h =
-    found_forms kind at n text ts h.0 (piece_form (innermost opens) at text kind n h.1.some h.1.here)
-    (λ us same. reads_forms (opens_behind opens at kind (slice_index text 0)) (at + n) (drop n text) ps h.0 us same h.2)
-    (sym is ∙ h.3)
-reads_forms opens at text (Faulty e ∷ ps) r ts is h = absurd (cc)
-
-pub tokens_forms : (text : List ℕ) (ts : List Tok) → HasTokens text (Ok ts) → HaveForms ts
-tokens_forms text ts h = reads_forms [] (first_line_len text) (drop (first_line_len text) text) h.0 (Ok ts) ts refl h.1

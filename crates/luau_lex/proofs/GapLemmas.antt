@@ -6,7 +6,7 @@ use Rattle.std.proofs.lemmas.Bool.{eqb-true}
 use Rattle.std.proofs.lemmas.List.{take-append-drop, drop-drop}
 use Rattle.luau_lex.proofs.FormLemmas.{choose}
 use Rattle.luau_lex.proofs.LongLemmas.{none_opens, long_here}
-use Rattle.luau_lex.proofs.OrderLemmas.{left_behind, reads_order}
+use Rattle.luau_lex.proofs.OrderLemmas.{left_behind}
 use Rattle.luau_lex.specs.declared.token.Kind.{Kind}
 use Rattle.luau_lex.specs.declared.token.Kind.TheVariants.{Numeral, Quoted, Whole, Begin, Mid, End, Sign}
 use Rattle.luau_lex.specs.declared.token.LexError.{LexError}
@@ -15,14 +15,17 @@ use Rattle.luau_lex.specs.declared.piece.Piece.{Piece}
 use Rattle.luau_lex.specs.declared.piece.Piece.TheVariants.{Gap, Found, Faulty}
 use Rattle.luau_lex.specs.declared.piece.Open.{Open}
 use Rattle.luau_lex.specs.Bytes.{line_feed, double_quote, single_quote, minus, backquote, brace, closing_brace, is_blank, is_name_start, is_no_line_feed}
-use Rattle.luau_lex.specs.Numerals.{begins_numeral, numeral_len, is_numeral}
-use Rattle.luau_lex.specs.Signs.{sign_len}
-use Rattle.luau_lex.specs.Brackets.{level, closing_place}
-use Rattle.luau_lex.specs.Strings.{inside_len, malformed_at}
-use Rattle.luau_lex.specs.Pieces.{name_piece, numeral_piece, unless_malformed, quoted_piece, part_piece, long_len, long_of, long_piece, long_comment_of, comment_of, comment_piece, sign_piece, bracket_or_sign, part_open, innermost, closing_piece, other_piece, piece, opens_behind}
-use Rattle.luau_lex.specs.Tokens.{Tok, token_at, with_token, first_line_len}
-use Rattle.luau_lex.specs.Grammar.{Reads, HasTokens, StandInOrder}
-use Rattle.luau_lex.specs.Forms.{EndsLine, IsGapPart, IsGapOf, IsGap, StandApart}
+use Rattle.luau_lex.specs.Numerals.{begins_numeral}
+use Rattle.luau_lex.specs.Computed.Numerals.{numeral_len, is_numeral}
+use Rattle.luau_lex.specs.Computed.Signs.{sign_len}
+use Rattle.luau_lex.specs.Computed.Brackets.{level, closing_place}
+use Rattle.luau_lex.specs.Computed.Strings.{inside_len, malformed_at}
+use Rattle.luau_lex.specs.Computed.Pieces.{name_piece, numeral_piece, unless_malformed, quoted_piece, part_piece, long_len, long_of, long_piece, long_comment_of, comment_of, comment_piece, sign_piece, bracket_or_sign, part_open, innermost, closing_piece, other_piece, piece, opens_behind}
+use Rattle.luau_lex.specs.Token.{Tok}
+use Rattle.luau_lex.specs.Computed.Tokens.{token_at, with_token}
+use Rattle.luau_lex.specs.Places.{first_line_len, StandInOrder}
+use Rattle.luau_lex.specs.Computed.Reads.{Reads, HasTokens}
+use Rattle.luau_lex.specs.Forms.{EndsLine, IsGapPart, IsGapOf, IsGap}
 use Rattle.luau_lex.proofs.LongestLemmas.{blanks_longest, run_all}
 
 -- what is no gap
@@ -221,37 +224,3 @@ pub gap_before : (at n start : ℕ) (text : List ℕ) → at + n ≤ start → I
 gap_before at n start text order form h =
     let far : n + (start - (at + n)) ≡ start - at = omega arith in
     subst (λ k. IsGap (take k text) (drop k text)) far (gap_behind n (start - (at + n)) text form h)
-
--- tokens that stand apart behind a gap
-apart_behind : (at n : ℕ) (text : List ℕ) (ts : List Tok) → IsGapPart (take n text) (drop n text) → StandInOrder (at + n) (drop n text) ts → StandApart (at + n) (drop n text) ts → StandApart at text ts
-apart_behind at n text [] form order h = (take n text ∷ h.0, (drop n text, subst (IsGapPart (take n text)) (sym (append-nil (drop n text))) form, sym (take-append-drop n text), h.1))
-apart_behind at n text (t ∷ ts) form order h = (
-  gap_before at n t.span.start text order.0 form h.0,
-  subst (λ l. StandApart t.span.end l ts) (left_behind at n t.span.end text (omega (arith, order.0, order.1))) h.1,
-)
-
-apart_token : (kind : Kind) (at n : ℕ) (text : List ℕ) (ts : List Tok) → StandApart (at + n) (drop n text) ts → StandApart at text (token_at kind n at text ∷ ts)
-apart_token kind at n text ts h =
-    let width : at + n - at ≡ n = omega arith in
-    let none : at - at ≡ 0 = omega arith in
-    (([], ap (λ k. take k text) none), subst (λ k. StandApart (at + n) (drop k text) ts) (sym width) h)
-
-apart_found : (kind : Kind) (at n : ℕ) (text : List ℕ) (ts : List Tok) (rest : Result (List Tok) LexError) → ((us : List Tok) → rest ≡ Ok us → StandApart (at + n) (drop n text) us) → Ok ts ≡ with_token (token_at kind n at text) rest → StandApart at text ts
-apart_found kind at n text ts (Ok us) more is =
-    let same : token_at kind n at text ∷ us ≡ ts = cc in
-    subst (StandApart at text) same (apart_token kind at n text us (more us refl))
-apart_found kind at n text ts (Err e) more is = absurd (cc)
-
-reads_apart : (opens : List Open) (at : ℕ) (text : List ℕ) (ps : List Piece) (r : Result (List Tok) LexError) (ts : List Tok) → r ≡ Ok ts → Reads opens at text ps r → StandApart at text ts
-reads_apart opens at text [] r ts is h = let none : [] ≡ ts = cc in subst (StandApart at text) none ([], h.0)
-reads_apart opens at text (Gap n ∷ ps) r ts is h =
-    apart_behind at n text ts (piece_gap (innermost opens) at text n h.0.here) (reads_order opens (at + n) (drop n text) ps r ts is h.1) (reads_apart opens (at + n) (drop n text) ps r ts is h.1)
-reads_apart opens at text (Found kind n ∷ ps) r ts is h =
-    apart_found kind at n text ts h.0
-    (λ us same. reads_apart (opens_behind opens at kind (slice_index text 0)) (at + n) (drop n text) ps h.0 us same h.2)
-    (sym is ∙ h.3)
-reads_apart opens at text (Faulty e ∷ ps) r ts is h = absurd (cc)
-
--- blanks and comments alone stand between the tokens of a text, behind a first line that is a comment
-pub tokens_apart : (text : List ℕ) (ts : List Tok) → HasTokens text (Ok ts) → StandApart (first_line_len text) (drop (first_line_len text) text) ts
-tokens_apart text ts h = reads_apart [] (first_line_len text) (drop (first_line_len text) text) h.0 (Ok ts) ts refl h.1

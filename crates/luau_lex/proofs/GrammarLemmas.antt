@@ -5,10 +5,12 @@ use Rattle.luau_lex.specs.declared.token.LexError.{LexError}
 use Rattle.luau_lex.specs.declared.piece.Piece.{Piece}
 use Rattle.luau_lex.specs.declared.piece.Piece.TheVariants.{Gap, Found, Faulty}
 use Rattle.luau_lex.specs.declared.piece.Open.{Open}
-use Rattle.luau_lex.specs.Pieces.{opens_behind}
-use Rattle.luau_lex.specs.Tokens.{Tok, token_at, with_token, tokens_from, tokens_of, first_line_len}
-use Rattle.luau_lex.specs.Grammar.{StandsHere, Reads, HasTokens}
-use Rattle.luau_lex.specs.Steps.{with_tokens}
+use Rattle.luau_lex.specs.Computed.Pieces.{opens_behind}
+use Rattle.luau_lex.specs.Token.{Tok}
+use Rattle.luau_lex.specs.Computed.Tokens.{token_at, with_token, tokens_from, tokens_of}
+use Rattle.luau_lex.specs.Places.{first_line_len}
+use Rattle.luau_lex.specs.Computed.Reads.{StandsHere, Reads, HasTokens}
+use Rattle.luau_lex.specs.Computed.Steps.{with_tokens}
 use Rattle.luau_lex.proofs.ReadingLemmas.{gap_read, found_read, fault_read, tokens_skip, with_one_more, with_none}
 
 -- what the pieces give is what is computed

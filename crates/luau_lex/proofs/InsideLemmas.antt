@@ -8,7 +8,8 @@ use Rattle.std.proofs.lemmas.Bool.{eqb-false}
 use Rattle.std.proofs.lemmas.List.{take-append-drop, get_or-append-add}
 use Rattle.std.proofs.lemmas.List.Sums.{prefix_len-le-length}
 use Rattle.luau_lex.specs.Bytes.{line_feed, carriage_return, backslash, backquote, brace, closing_brace, is_blank}
-use Rattle.luau_lex.specs.Strings.{Element, number_in, ends_inside, inside_len}
+use Rattle.luau_lex.specs.Computed.Strings.{Element, ends_inside, inside_len}
+use Rattle.luau_lex.specs.Numbers.{number_in}
 use Rattle.luau_lex.specs.Spellings.{letter_u, letter_x, letter_z, Spelling, Plain, Skip, Hex, Decimal, CodePoint, LineEnd, Escaped, CutShort, BadHex, BadCodePoint, BadDecimal, written, AreDecimalDigits, IsSpelling, AreSpellings}
 use Rattle.luau_lex.proofs.LongestLemmas.{run_all}
 use Rattle.luau_lex.proofs.StringLemmas.{inside_next, inside_ends}

@@ -1,44 +1,41 @@
 -- What meets the laws on tokens is the list of tokens of the text.
-use Rattle.std.proofs.Common.{◌≡◌, ℕ, ◌+◌, ◌-◌, ◌<◌, ◌≤◌, List, [], ◌∷◌, ◌++◌, length, take, drop, slice_index, Ok, sym, ap, subst, ◌∙◌, arith, append-nil, length-drop, length-take-le, zero-add}
+use Rattle.std.proofs.Common.{◌≡◌, ℕ, ◌+◌, ◌-◌, ◌<◌, ◌≤◌, List, [], ◌∷◌, ◌++◌, length, take, drop, slice_index, Result, Ok, Err, Option, None, Some, sym, refl, ap, subst, ◌∙◌, arith, length-drop, length-take-le, zero-add}
 use Rattle.std.proofs.lemmas.List.{take-append-drop, drop-drop}
+use Rattle.luau_lex.specs.declared.token.LexError.{LexError}
 use Rattle.luau_lex.specs.declared.piece.Piece.TheVariants.{Found}
 use Rattle.luau_lex.specs.declared.piece.Open.{Open}
 use Rattle.luau_lex.specs.Bytes.{brace}
-use Rattle.luau_lex.specs.Pieces.{innermost, piece, opens_behind}
-use Rattle.luau_lex.specs.Tokens.{Tok, token_at, with_token, tokens_from, tokens_of, first_line_len}
-use Rattle.luau_lex.specs.Grammar.{HasTokens, StandInOrder}
-use Rattle.luau_lex.specs.Forms.{HasForm, HaveForms, NoneOpens, StandApart}
-use Rattle.luau_lex.specs.Braces.{braces_behind, MatchBraces}
-use Rattle.luau_lex.specs.LongestTokens.{NoLongerToken, NoLongerWord, NoComment, AreLongest, StandClear}
-use Rattle.luau_lex.proofs.ReadingLemmas.{tokens_skip, found_read}
+use Rattle.luau_lex.specs.Token.{Tok}
+use Rattle.luau_lex.specs.Forms.{HasForm, NoneOpens}
+use Rattle.luau_lex.specs.Places.{first_line_len}
+use Rattle.luau_lex.specs.Braces.{braces_behind}
+use Rattle.luau_lex.specs.LongestTokens.{NoLongerToken, NoLongerWord, NoComment}
+use Rattle.luau_lex.specs.Lexed.{EndsWith, StandApart, Lawful, Lexed}
+use Rattle.luau_lex.specs.Computed.Pieces.{innermost, piece, opens_behind}
+use Rattle.luau_lex.specs.Computed.Tokens.{token_at, with_token, tokens_from, tokens_of}
+use Rattle.luau_lex.specs.Computed.Reads.{HasTokens}
+use Rattle.luau_lex.proofs.ReadingLemmas.{tokens_skip, found_read, fault_read}
 use Rattle.luau_lex.proofs.ExistLemmas.{tokens_there}
 use Rattle.luau_lex.proofs.TokenLemmas.{outward, behind_is, first_of}
 use Rattle.luau_lex.proofs.ExactLemmas.{token_there}
 use Rattle.luau_lex.proofs.DeterminedLemmas.{gap_skip}
-
--- the laws on the tokens of what is left of a text
-pub record Lawful (braces : List Open) (at : ℕ) (text : List ℕ) (ts : List Tok) : Type 0 where
-  pub in_order : StandInOrder at text ts
-  pub forms : HaveForms ts
-  pub apart : StandApart at text ts
-  pub braces_match : MatchBraces braces ts
-  pub longest : AreLongest braces at text ts
-  pub clear : StandClear at text ts
+use Rattle.luau_lex.proofs.LawfulLemmas.{tokens_lawful, fault_lawful}
+use Rattle.luau_lex.proofs.FaultReadLemmas.{fault_there}
 
 -- what is left behind the first token is lawful
-lawful_rest : (braces : List Open) (at : ℕ) (text : List ℕ) (t : Tok) (ts : List Tok) → Lawful braces at text (t ∷ ts) → Lawful (braces_behind t braces) t.span.end (drop (t.span.end - at) text) ts
-lawful_rest braces at text t ts h = record {
+lawful_rest : (fault : Option LexError) (braces : List Open) (at : ℕ) (text : List ℕ) (t : Tok) (ts : List Tok) → Lawful fault braces at text (t ∷ ts) → Lawful fault (braces_behind t braces) t.span.end (drop (t.span.end - at) text) ts
+lawful_rest fault braces at text t ts h = record {
   in_order = h.in_order.4;
   forms = h.forms.1;
   apart = h.apart.1;
-  braces_match = h.braces_match.2;
+  braces = h.braces.2;
   longest = h.longest.3;
   clear = h.clear.2;
 }
 
 -- the first token is read at its place
-lawful_first : (braces : List Open) (at : ℕ) (text : List ℕ) (t : Tok) (ts : List Tok) → Lawful braces at text (t ∷ ts) → piece (innermost (outward braces)) t.span.start (drop (t.span.start - at) text) ≡ Found t.kind (t.span.end - t.span.start)
-lawful_first braces at text t ts h =
+lawful_first : (fault : Option LexError) (braces : List Open) (at : ℕ) (text : List ℕ) (t : Tok) (ts : List Tok) → Lawful fault braces at text (t ∷ ts) → piece (innermost (outward braces)) t.span.start (drop (t.span.start - at) text) ≡ Found t.kind (t.span.end - t.span.start)
+lawful_first fault braces at text t ts h =
     let here = drop (t.span.start - at) text in
     let n = t.span.end - t.span.start in
     let w = take n here in
@@ -51,8 +48,8 @@ lawful_first braces at text t ts h =
     let behind : more ≡ drop (t.span.end - at) text = drop-drop n (t.span.start - at) text ∙ ap (λ k. drop k text) far in
     let read = token_there t.kind braces t.span.start w more (omega (arith, width, h.in_order.1))
     (subst (HasForm t.kind) h.in_order.3 h.forms.0)
-    h.braces_match.0
-    (λ sign closes. h.braces_match.1 sign (ap (λ l. slice_index l 0) h.in_order.3 ∙ closes))
+    h.braces.0
+    (λ sign closes. h.braces.1 sign (ap (λ l. slice_index l 0) h.in_order.3 ∙ closes))
     (subst (λ l. NoLongerToken braces l (length w)) (sym whole) (subst (NoLongerToken braces here) (sym width) h.longest.0))
     (λ numeral. subst (λ l. NoLongerWord l (length w)) (sym whole) (subst (NoLongerWord here) (sym width) (h.longest.1 numeral)))
     (subst NoComment (sym whole) h.longest.2)
@@ -65,8 +62,8 @@ token_is t n here ends bytes =
     ap (λ e. record { kind = t.kind; span = record { start = t.span.start; end = e }; bytes = take n here }) ends
     ∙ ap (λ l. record { kind = t.kind; span = record { start = t.span.start; end = t.span.end }; bytes = l }) (sym bytes)
 
-lawful_skip : (braces : List Open) (at : ℕ) (text : List ℕ) (t : Tok) (ts : List Tok) → Lawful braces at text (t ∷ ts) → tokens_from (outward braces) 0 at text ≡ tokens_from (outward braces) 0 t.span.start (drop (t.span.start - at) text)
-lawful_skip braces at text t ts h =
+lawful_skip : (fault : Option LexError) (braces : List Open) (at : ℕ) (text : List ℕ) (t : Tok) (ts : List Tok) → Lawful fault braces at text (t ∷ ts) → tokens_from (outward braces) 0 at text ≡ tokens_from (outward braces) 0 t.span.start (drop (t.span.start - at) text)
+lawful_skip fault braces at text t ts h =
     let k = t.span.start - at in
     let opens = outward braces in
     let width = length-take-le k text (omega (arith, h.in_order.0, h.in_order.1, h.in_order.2)) in
@@ -75,10 +72,33 @@ lawful_skip braces at text t ts h =
     ∙ gap_skip opens at (take k text) (drop k text) h.apart.0
     ∙ ap (λ j. tokens_from opens 0 j (drop k text)) far
 
-lawful_tokens : (braces : List Open) (at : ℕ) (text : List ℕ) (ts : List Tok) → Lawful braces at text ts → tokens_from (outward braces) 0 at text ≡ Ok ts
-lawful_tokens braces at text [] h =
-    ap (tokens_from (outward braces) 0 at) (sym (append-nil text)) ∙ gap_skip (outward braces) at text [] h.apart
-lawful_tokens braces at text (t ∷ ts) h =
+-- the answer that these tokens are, up to the end of the text or up to this fault
+abbrev pub answer_of : Option LexError → List Tok → Result (List Tok) LexError
+answer_of None ts = Ok ts
+answer_of (Some e) ts = Err e
+
+answer_token : (fault : Option LexError) (t : Tok) (ts : List Tok) → with_token t (answer_of fault ts) ≡ answer_of fault (t ∷ ts)
+answer_token None t ts = refl
+answer_token (Some e) t ts = refl
+
+ends_so : (fault : Option LexError) (braces : List Open) (at : ℕ) (text : List ℕ) → EndsWith fault braces at text → tokens_from (outward braces) 0 at text ≡ answer_of fault []
+ends_so None braces at text h = ap (tokens_from (outward braces) 0 at) h
+ends_so (Some e) braces at text h =
+    let there = fault_there braces at text e h in fault_read (outward braces) e at text there.0 there.1
+
+lawful_none : (fault : Option LexError) (braces : List Open) (at : ℕ) (text : List ℕ) → StandApart fault braces at text [] → tokens_from (outward braces) 0 at text ≡ answer_of fault []
+lawful_none fault braces at text h =
+    let n = h.0 in
+    let opens = outward braces in
+    let far : at + length (take n text) ≡ at + n = omega (arith, length-take-le n text h.1) in
+    ap (tokens_from opens 0 at) (sym (take-append-drop n text))
+    ∙ gap_skip opens at (take n text) (drop n text) h.2
+    ∙ ap (λ k. tokens_from opens 0 k (drop n text)) far
+    ∙ ends_so fault braces (at + n) (drop n text) h.3
+
+lawful_tokens : (fault : Option LexError) (braces : List Open) (at : ℕ) (text : List ℕ) (ts : List Tok) → Lawful fault braces at text ts → tokens_from (outward braces) 0 at text ≡ answer_of fault ts
+lawful_tokens fault braces at text [] h = lawful_none fault braces at text h.apart
+lawful_tokens fault braces at text (t ∷ ts) h =
     let k = t.span.start - at in
     let n = t.span.end - t.span.start in
     let here = drop k text in
@@ -91,20 +111,50 @@ lawful_tokens braces at text (t ∷ ts) h =
     let first : slice_index here 0 ≡ slice_index t.bytes 0 = sym (first_of n here least) ∙ ap (λ l. slice_index l 0) (sym h.in_order.3) in
     let opens' : opens_behind opens t.span.start t.kind (slice_index here 0) ≡ outward (braces_behind t braces) =
     ap (opens_behind opens t.span.start t.kind) first ∙ behind_is t.kind t.span.start (slice_index t.bytes 0) braces in
-    lawful_skip braces at text t ts h
-    ∙ found_read opens t.kind n t.span.start here least some (lawful_first braces at text t ts h)
+    lawful_skip fault braces at text t ts h
+    ∙ found_read opens t.kind n t.span.start here least some (lawful_first fault braces at text t ts h)
     ∙ ap (λ x. with_token x (tokens_from (opens_behind opens t.span.start t.kind (slice_index here 0)) 0 (t.span.start + n) (drop n here))) (token_is t n here ends h.in_order.3)
     ∙ ap (λ o. with_token t (tokens_from o 0 (t.span.start + n) (drop n here))) opens'
     ∙ ap (λ j. with_token t (tokens_from (outward (braces_behind t braces)) 0 j (drop n here))) ends
     ∙ ap (λ l. with_token t (tokens_from (outward (braces_behind t braces)) 0 t.span.end l)) behind
-    ∙ ap (with_token t) (lawful_tokens (braces_behind t braces) t.span.end (drop (t.span.end - at) text) ts (lawful_rest braces at text t ts h))
+    ∙ ap (with_token t) (lawful_tokens fault (braces_behind t braces) t.span.end (drop (t.span.end - at) text) ts (lawful_rest fault braces at text t ts h))
+    ∙ answer_token fault t ts
 
--- what meets the laws is what the text has
-pub laws_determine : (text : List ℕ) (ts : List Tok) → StandInOrder (first_line_len text) (drop (first_line_len text) text) ts → HaveForms ts → StandApart (first_line_len text) (drop (first_line_len text) text) ts → MatchBraces [] ts → AreLongest [] (first_line_len text) (drop (first_line_len text) text) ts → StandClear (first_line_len text) (drop (first_line_len text) text) ts → HasTokens text (Ok ts)
+-- what meets the laws is what is computed
+pub laws_determine : (text : List ℕ) (ts : List Tok) (fault : Option LexError) → Lexed text ts fault → tokens_of text ≡ answer_of fault ts
 unfolding tokens_of
-laws_determine text ts ordered forms apart matching longest clear =
+laws_determine text ts fault h =
     let n = first_line_len text in
-    let computed : tokens_of text ≡ Ok ts =
-    tokens_skip [] n 0 text ∙ ap (λ k. tokens_from [] 0 k (drop n text)) (zero-add n)
-    ∙ lawful_tokens [] n (drop n text) ts (record { in_order = ordered; forms = forms; apart = apart; braces_match = matching; longest = longest; clear = clear }) in
-    subst (HasTokens text) computed (tokens_there text)
+    tokens_skip [] n 0 text ∙ ap (λ k. tokens_from [] 0 k (drop n text)) (zero-add n) ∙ lawful_tokens fault [] n (drop n text) ts h
+
+-- and what is computed meets the laws
+pub tokens_are_lexed : (text : List ℕ) (ts : List Tok) → tokens_of text ≡ Ok ts → Lexed text ts None
+tokens_are_lexed text ts is = tokens_lawful text ts (subst (HasTokens text) is (tokens_there text))
+
+pub fault_is_lexed : (text : List ℕ) (e : LexError) → tokens_of text ≡ Err e → (ts : List Tok) × Lexed text ts (Some e)
+fault_is_lexed text e is = fault_lawful text e (subst (HasTokens text) is (tokens_there text))
+
+same_tokens : (ts us : List Tok) → ◌≡◌ {A = Result (List Tok) LexError} (Ok ts) (Ok us) → ts ≡ us
+same_tokens ts us is = cc
+
+same_fault : (d e : LexError) → ◌≡◌ {A = Result (List Tok) LexError} (Err d) (Err e) → d ≡ e
+same_fault d e is = cc
+
+no_both : (ts : List Tok) (e : LexError) → ◌≡◌ {A = Result (List Tok) LexError} (Ok ts) (Err e) → ⊥
+no_both ts e is = cc
+
+pub one_list : (text : List ℕ) (ts us : List Tok) → Lexed text ts None → Lexed text us None → ts ≡ us
+one_list text ts us h g = same_tokens ts us (sym (laws_determine text ts None h) ∙ laws_determine text us None g)
+
+pub one_fault : (text : List ℕ) (ts us : List Tok) (d e : LexError) → Lexed text ts (Some d) → Lexed text us (Some e) → d ≡ e
+one_fault text ts us d e h g = same_fault d e (sym (laws_determine text ts (Some d) h) ∙ laws_determine text us (Some e) g)
+
+pub one_of_both : (text : List ℕ) (ts us : List Tok) (e : LexError) → Lexed text ts None → Lexed text us (Some e) → ⊥
+one_of_both text ts us e h g = no_both ts e (sym (laws_determine text ts None h) ∙ laws_determine text us (Some e) g)
+
+some_lexed : (text : List ℕ) (r : Result (List Tok) LexError) → tokens_of text ≡ r → (ts : List Tok) × (fault : Option LexError) × Lexed text ts fault
+some_lexed text (Ok ts) is = (ts, None, tokens_are_lexed text ts is)
+some_lexed text (Err e) is = let h = fault_is_lexed text e is in (h.0, Some e, h.1)
+
+pub each_lexed : (text : List ℕ) → (ts : List Tok) × (fault : Option LexError) × Lexed text ts fault
+each_lexed text = some_lexed text (tokens_of text) refl

@@ -4,11 +4,13 @@ pub mod DeterminedLemmas
 pub mod ExactLemmas
 pub mod ExistLemmas
 pub mod FaultLemmas
+pub mod FaultReadLemmas
 pub mod FormLemmas
 pub mod GapLemmas
 pub mod GrammarLemmas
 pub mod InsideLemmas
 pub mod LawLemmas
+pub mod LawfulLemmas
 pub mod LongLemmas
 pub mod LongestLemmas
 pub mod LongestTokenLemmas
@@ -20,7 +22,6 @@ pub mod ReadingLemmas
 pub mod RefuseLemmas
 pub mod SignLemmas
 pub mod SpellingLemmas
-pub mod StopLemmas
 pub mod StringLemmas
 pub mod TokenLemmas
 pub mod ValueLemmas

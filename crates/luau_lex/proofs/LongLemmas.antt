@@ -6,7 +6,7 @@ use Rattle.std.proofs.Math.Seq.{take-add, get_or-append_seam, drop-append_seam}
 use Rattle.std.proofs.lemmas.Bool.{eqb-true}
 use Rattle.std.proofs.lemmas.List.{take_more, get_or_past, take-append-drop, take-append-le, drop-append-le}
 use Rattle.luau_lex.specs.Bytes.{equals, bracket, closing_bracket}
-use Rattle.luau_lex.specs.Brackets.{level, closes, closing_place, equals_len}
+use Rattle.luau_lex.specs.Computed.Brackets.{level, closes, closing_place, equals_len}
 use Rattle.luau_lex.specs.Forms.{bracket_of, ClosesFirst, IsLong, NoneOpens}
 use Rattle.luau_lex.proofs.BracketLemmas.{closing_found, closes_there, closes_not_before}
 use Rattle.luau_lex.proofs.SpellingLemmas.{and_at, both_at, run_exact}

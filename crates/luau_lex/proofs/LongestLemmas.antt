@@ -3,7 +3,14 @@ use Rattle.std.proofs.Common.{◌≡◌, ℕ, zero, suc, ◌+◌, ◌<◌, ◌�
 use Rattle.std.specs.List.{prefix_len, list_all}
 use Rattle.std.proofs.lemmas.List.Sums.{prefix_len-le-length}
 use Rattle.luau_lex.specs.Bytes.{is_blank, is_name_start, is_name_byte}
-use Rattle.luau_lex.specs.Grammar.{Longest, is_blanks, is_name}
+use Rattle.luau_lex.specs.Forms.{is_blanks}
+use Rattle.luau_lex.specs.Names.{is_name}
+
+-- The longest front of a text that is of a form has n bytes.
+pub record Longest (is_of : List ℕ → Bool) (text : List ℕ) (n : ℕ) : Type 0 where
+  pub within : n ≤ length text
+  pub whole : is_of (take n text) ≡ true
+  pub none_longer : (m : ℕ) → n < m → m ≤ length text → is_of (take m text) ≡ false
 
 run_all_at : (p : ℕ → Bool) (x : ℕ) (xs : List ℕ) (b : Bool) → p x ≡ b → list_all p (take (prefix_len p xs) xs) ≡ true → list_all p (take (cond b (1 + prefix_len p xs) 0) (x ∷ xs)) ≡ true
 run_all_at p x xs true h more =

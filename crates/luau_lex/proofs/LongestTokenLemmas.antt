@@ -12,17 +12,19 @@ use Rattle.luau_lex.specs.declared.piece.Piece.TheVariants.{Gap, Found, Faulty}
 use Rattle.luau_lex.specs.declared.piece.Open.{Open}
 use Rattle.luau_lex.specs.Bytes.{bracket, dot, double_quote, single_quote, minus, backquote, closing_brace, is_blank, is_name_start}
 use Rattle.luau_lex.specs.Numerals.{begins_numeral}
-use Rattle.luau_lex.specs.Signs.{sign_len, sign_len_of, is_sign}
-use Rattle.luau_lex.specs.Brackets.{level}
-use Rattle.luau_lex.specs.Strings.{ends_inside}
-use Rattle.luau_lex.specs.Pieces.{name_piece, numeral_piece, quoted_piece, part_piece, comment_of, comment_piece, sign_piece, bracket_or_sign, part_open, closing_piece, other_piece, piece}
-use Rattle.luau_lex.specs.Tokens.{IsWithin}
+use Rattle.luau_lex.specs.Computed.Signs.{sign_len, sign_len_of}
+use Rattle.luau_lex.specs.Signs.{is_sign}
+use Rattle.luau_lex.specs.Computed.Brackets.{level}
+use Rattle.luau_lex.specs.Computed.Strings.{ends_inside}
+use Rattle.luau_lex.specs.Computed.Pieces.{name_piece, numeral_piece, quoted_piece, part_piece, comment_of, comment_piece, sign_piece, bracket_or_sign, part_open, closing_piece, other_piece, piece}
+use Rattle.luau_lex.specs.Computed.Tokens.{IsWithin}
 use Rattle.luau_lex.specs.Forms.{HasForm}
 use Rattle.luau_lex.specs.Braces.{goes_on_with_string}
-use Rattle.luau_lex.proofs.SpellingLemmas.{and_at}
+use Rattle.luau_lex.proofs.SpellingLemmas.{or_at, and_at}
 use Rattle.luau_lex.proofs.SignLemmas.{sign_longest, sign_missing}
-use Rattle.luau_lex.proofs.FormLemmas.{choose, or_at, comment_no_token}
+use Rattle.luau_lex.proofs.FormLemmas.{choose, comment_no_token}
 use Rattle.luau_lex.proofs.ExistLemmas.{piece_within}
+use Rattle.luau_lex.proofs.NumeralLemmas.{numeral_is_read}
 use Rattle.luau_lex.proofs.PlaceLemmas.{name_bound, numeral_bound, quoted_bound, last_bound, further_bound, long_bound, at_double, at_single, at_backquote, at_closing, opens_byte, found_len}
 
 -- a byte of a class is none that isn't
@@ -214,7 +216,8 @@ pub form_bound : (kind : Kind) (ob : Option Open) (at : ℕ) (w more : List ℕ)
 unfolding ends_inside
 form_bound Name ob at w more k n some may form is = name_bound ob at w more k n form.0 is
 form_bound Word ob at w more k n some may form is = name_bound ob at w more k n form.0 is
-form_bound Numeral ob at w more k n some may form is = numeral_bound ob at w more k n form.0 form.1 is
+form_bound Numeral ob at w more k n some may form is =
+    let read = numeral_is_read w form in numeral_bound ob at w more k n read.0 read.1 is
 form_bound Quoted ob at w more k n some may (inl form) is =
     quoted_bound double_quote ob at w more k n (omega arith) (λ same. omega (arith, same)) refl (at_double ob at) form is
 form_bound Quoted ob at w more k n some may (inr form) is =

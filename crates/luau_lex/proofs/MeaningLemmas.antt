@@ -3,7 +3,7 @@ use Rattle.std.proofs.Common.{◌≡◌, ◌≢◌, ℕ, ◌+◌, Bool, true, fa
 use Rattle.std.specs.Char.{is_ascii_digit, is_ascii_hexdigit}
 use Rattle.std.proofs.Math.Seq.{drop-append_seam}
 use Rattle.luau_lex.specs.Bytes.{line_feed, brace, closing_brace, is_blank}
-use Rattle.luau_lex.specs.Strings.{Element, element, malformed_at, value_of_inside}
+use Rattle.luau_lex.specs.Computed.Strings.{Element, element, malformed_at, value_of_inside}
 use Rattle.luau_lex.specs.Spellings.{Spelling, Plain, Skip, Hex, Decimal, CodePoint, LineEnd, Escaped, CutShort, BadHex, BadCodePoint, BadDecimal, written, stands_for, IsSpelling, AreSpellings, are_well_formed, stand_for}
 use Rattle.luau_lex.proofs.StringLemmas.{malformed_next, malformed_here, value_next}
 use Rattle.luau_lex.proofs.SpellingLemmas.{and_at, both_at, spelling_read}

@@ -1,15 +1,15 @@
 -- A word is read as a numeral where it is of the form of one.
-use Rattle.std.proofs.Common.{◌≡◌, ◌⊎◌, inl, inr, ℕ, suc, ◌+◌, Bool, true, false, ◌&&◌, ◌||◌, eqb, cond, List, [], ◌∷◌, ◌++◌, length, take, drop, slice_index, sym, refl, ap, subst, ◌∙◌, arith, append_assoc, append-nil, eqb-true, eq-eqb, ne_eqb}
+use Rattle.std.proofs.Common.{◌≡◌, ◌⊎◌, inl, inr, ℕ, zero, suc, ◌<◌, ◌+◌, Bool, true, false, ◌&&◌, ◌||◌, eqb, cond, List, [], ◌∷◌, ◌++◌, length, take, drop, slice_index, sym, refl, ap, subst, ◌∙◌, arith, append_assoc, append-nil, eqb-true, eq-eqb, ne_eqb}
+use Rattle.std.specs.Prelude.{All, codes}
 use Rattle.std.specs.List.{prefix_len, list_all, list_any}
 use Rattle.std.specs.Char.{is_ascii_digit, is_ascii_hexdigit}
 use Rattle.std.proofs.Math.Seq.{drop-append_seam}
 use Rattle.std.proofs.lemmas.List.{take-append-drop}
-use Rattle.luau_lex.specs.Bytes.{dot, is_digit_or_underscore, is_hex_or_underscore, is_binary_or_underscore}
-use Rattle.luau_lex.specs.Numerals.{begins_numeral, is_exponent_letter, is_exponent_sign, exponent_len, is_digits, is_exponent_or_none, after_fraction, is_decimal, is_hex_part, is_binary_part, is_numeral}
-use Rattle.luau_lex.specs.NumeralForms.{IsDigits, IsExponent, IsMantissa, IsDecimal, IsHexadecimal, IsBinary, IsNumeral}
+use Rattle.luau_lex.specs.Bytes.{dot, is_digit_or_underscore, is_hex_or_underscore, is_binary_or_underscore, is_exponent_letter, is_exponent_sign}
+use Rattle.luau_lex.specs.Numerals.{begins_numeral, IsDigits, IsExponent, IsMantissa, IsDecimal, IsHexadecimal, IsBinary, IsNumeral}
+use Rattle.luau_lex.specs.Computed.Numerals.{exponent_len, is_digits, is_exponent_or_none, after_fraction, is_decimal, is_hex_part, is_binary_part, is_numeral}
 use Rattle.luau_lex.proofs.LongestLemmas.{run_all}
-use Rattle.luau_lex.proofs.SpellingLemmas.{and_at, both_at, run_exact}
-use Rattle.luau_lex.proofs.FormLemmas.{or_at}
+use Rattle.luau_lex.proofs.SpellingLemmas.{or_at, and_at, both_at, run_exact}
 use Rattle.luau_lex.proofs.WordLemmas.{all_of_len, choose_is}
 
 -- digits are told by their bytes
@@ -292,3 +292,41 @@ numeral_is_read word (inl decimal) =
     (ap begins_numeral decimal.2 ∙ decimal_begins decimal.0 decimal.1 decimal.3, decimal_read word decimal)
 numeral_is_read word (inr (inl h)) = (ap begins_numeral h.2, ap is_numeral h.2 ∙ hex_read h.0 h.1 h.3 h.4 h.5)
 numeral_is_read word (inr (inr h)) = (ap begins_numeral h.2, ap is_numeral h.2 ∙ binary_read h.0 h.1 h.3 h.4 h.5)
+
+-- examples
+no_numeral : (word : List ℕ) → is_numeral word ≡ false → IsNumeral word → ⊥
+no_numeral word none is = let read = (numeral_is_read word is).1 in cc
+
+no_begin : (word : List ℕ) → begins_numeral word ≡ false → IsNumeral word → ⊥
+no_begin word none is = let read = (numeral_is_read word is).0 in cc
+
+-- a fact of each of some words, one by one
+abbrev Each : (List ℕ → Type 0) → List (List ℕ) → Type 0
+Each P [] = Unit {0}
+Each P (word ∷ words) = P word × Each P words
+
+each_all : (P : List ℕ → Type 0) (words : List (List ℕ)) → Each P words → All P words
+each_all P [] h k d short = absurd (omega arith)
+each_all P (word ∷ words) h zero d short = h.0
+each_all P (word ∷ words) h (suc k) d short = each_all P words h.1 k d (omega arith)
+
+pub decimals : All IsNumeral (codes "1_.e5" ∷ codes ".5_E-3" ∷ codes "1._" ∷ codes "007" ∷ [])
+unfolding is_numeral is_decimal after_fraction is_exponent_or_none exponent_len is_digits is_hex_part is_binary_part
+decimals =
+    each_all IsNumeral (codes "1_.e5" ∷ codes ".5_E-3" ∷ codes "1._" ∷ codes "007" ∷ []) (numeral_form_is (codes "1_.e5") refl refl, (numeral_form_is (codes ".5_E-3") refl refl, (numeral_form_is (codes "1._") refl refl, (numeral_form_is (codes "007") refl refl, tt))))
+
+pub hexadecimals : All IsNumeral (codes "0X_f" ∷ codes "0x1e5" ∷ [])
+unfolding is_numeral is_decimal after_fraction is_exponent_or_none exponent_len is_digits is_hex_part is_binary_part
+hexadecimals =
+    each_all IsNumeral (codes "0X_f" ∷ codes "0x1e5" ∷ []) (numeral_form_is (codes "0X_f") refl refl, (numeral_form_is (codes "0x1e5") refl refl, tt))
+
+pub binaries : All IsNumeral (codes "0b_01" ∷ [])
+unfolding is_numeral is_decimal after_fraction is_exponent_or_none exponent_len is_digits is_hex_part is_binary_part
+binaries =
+    each_all IsNumeral (codes "0b_01" ∷ []) (numeral_form_is (codes "0b_01") refl refl, tt)
+
+pub no_numerals : All (λ word. IsNumeral word → ⊥) (codes "1e_5" ∷ codes "1..2" ∷ codes "0x_" ∷ codes "0b2" ∷ codes "1a" ∷ codes "._5" ∷ [])
+unfolding is_numeral is_decimal after_fraction is_exponent_or_none exponent_len is_digits is_hex_part is_binary_part
+no_numerals =
+    each_all (λ word. IsNumeral word → ⊥) (codes "1e_5" ∷ codes "1..2" ∷ codes "0x_" ∷ codes "0b2" ∷ codes "1a" ∷ codes "._5" ∷ [])
+    (no_numeral (codes "1e_5") refl, (no_numeral (codes "1..2") refl, (no_numeral (codes "0x_") refl, (no_numeral (codes "0b2") refl, (no_numeral (codes "1a") refl, (no_begin (codes "._5") refl, tt))))))

@@ -8,9 +8,11 @@ use Rattle.luau_lex.specs.declared.token.LexError.{LexError}
 use Rattle.luau_lex.specs.declared.piece.Piece.{Piece}
 use Rattle.luau_lex.specs.declared.piece.Piece.TheVariants.{Gap, Found, Faulty}
 use Rattle.luau_lex.specs.declared.piece.Open.{Open}
-use Rattle.luau_lex.specs.Pieces.{opens_behind}
-use Rattle.luau_lex.specs.Tokens.{Tok, token_at, with_token, first_line_len}
-use Rattle.luau_lex.specs.Grammar.{Reads, HasTokens, StandInOrder}
+use Rattle.luau_lex.specs.Computed.Pieces.{opens_behind}
+use Rattle.luau_lex.specs.Token.{Tok}
+use Rattle.luau_lex.specs.Computed.Tokens.{token_at, with_token}
+use Rattle.luau_lex.specs.Places.{first_line_len, StandInOrder}
+use Rattle.luau_lex.specs.Computed.Reads.{Reads, HasTokens}
 
 -- what is left behind n bytes, from a place behind them
 pub left_behind : (at n place : ℕ) (text : List ℕ) → at + n ≤ place → drop (place - (at + n)) (drop n text) ≡ drop (place - at) text
@@ -41,29 +43,6 @@ order_token kind at n text ts least fits h =
       subst (λ k. StandInOrder (at + n) (drop k text) ts) (sym width) h,
     )
 
-order_found : (kind : Kind) (at n : ℕ) (text : List ℕ) (ts : List Tok) (rest : Result (List Tok) LexError) → 1 ≤ n → n ≤ length text → ((us : List Tok) → rest ≡ Ok us → StandInOrder (at + n) (drop n text) us) → Ok ts ≡ with_token (token_at kind n at text) rest → StandInOrder at text ts
-order_found kind at n text ts (Ok us) least fits more is =
-    let same : token_at kind n at text ∷ us ≡ ts = cc in
-    subst (StandInOrder at text) same (order_token kind at n text us least fits (more us refl))
-order_found kind at n text ts (Err e) least fits more is = cc
-
-pub reads_order : (opens : List Open) (at : ℕ) (text : List ℕ) (ps : List Piece) (r : Result (List Tok) LexError) (ts : List Tok) → r ≡ Ok ts → Reads opens at text ps r → StandInOrder at text ts
-reads_order opens at text [] r ts is h = let none : [] ≡ ts = cc in subst (StandInOrder at text) none tt
-reads_order opens at text (Gap n ∷ ps) r ts is h =
-    order_behind at n text ts h.0.within.1 (reads_order opens (at + n) (drop n text) ps r ts is h.1)
-reads_order opens at text (Found kind n ∷ ps) r ts is h =
-    order_found kind at n text ts h.0 h.1.within.0 h.1.within.1
-    (λ us same. reads_order (opens_behind opens at kind (slice_index text 0)) (at + n) (drop n text) ps h.0 us same h.2)
-    (sym is ∙ h.3)
-reads_order opens at text (Faulty e ∷ ps) r ts is h = cc
-
--- the tokens of a text stand in order in it
-pub tokens_order : (text : List ℕ) (ts : List Tok) → first_line_len text ≤ length text → HasTokens text (Ok ts) → StandInOrder 0 text ts
-tokens_order text ts fits h =
-    let n = first_line_len text in
-    let same : n ≡ 0 + n = omega arith in
-    order_behind 0 n text ts fits (subst (λ k. StandInOrder k (drop n text) ts) same (reads_order [] n (drop n text) h.0 (Ok ts) ts refl h.1))
-
 chosen_within : (b : Bool) (n most : ℕ) → n ≤ most → cond b n 0 ≤ most
 chosen_within true n most h = h
 chosen_within false n most h = omega arith
@@ -72,6 +51,3 @@ chosen_within false n most h = omega arith
 pub first_line_within : (text : List ℕ) → first_line_len text ≤ length text
 unfolding first_line_len
 first_line_within text = chosen_within _ _ _ (prefix_len-le-length is_no_line_feed text)
-
-pub tokens_in_text : (text : List ℕ) (ts : List Tok) → HasTokens text (Ok ts) → StandInOrder 0 text ts
-tokens_in_text text ts h = tokens_order text ts (first_line_within text) h

@@ -9,18 +9,18 @@ use Rattle.luau_lex.specs.declared.token.LexError.TheVariants.{UnfinishedString,
 use Rattle.luau_lex.specs.declared.piece.Piece.TheVariants.{Gap, Found, Faulty}
 use Rattle.luau_lex.specs.declared.piece.Open.{Open}
 use Rattle.luau_lex.specs.Bytes.{backslash, bracket, dot, double_quote, single_quote, backquote, brace, closing_brace, is_blank, is_name_start, is_name_byte}
-use Rattle.luau_lex.specs.Names.{name_kind}
-use Rattle.luau_lex.specs.Numerals.{begins_numeral, numeral_len, is_numeral}
-use Rattle.luau_lex.specs.Brackets.{level, closing_place}
-use Rattle.luau_lex.specs.Strings.{ends_inside, inside_len, malformed_at}
-use Rattle.luau_lex.specs.Pieces.{name_piece, numeral_piece, unless_malformed, quoted_piece, part_piece, long_len, long_of, long_piece, bracket_or_sign, part_open, closing_piece, other_piece, piece}
-use Rattle.luau_lex.specs.Grammar.{is_name}
+use Rattle.luau_lex.specs.Computed.Pieces.{name_kind, name_piece, numeral_piece, unless_malformed, quoted_piece, part_piece, long_len, long_of, long_piece, bracket_or_sign, part_open, closing_piece, other_piece, piece}
+use Rattle.luau_lex.specs.Numerals.{begins_numeral}
+use Rattle.luau_lex.specs.Computed.Numerals.{numeral_len, is_numeral}
+use Rattle.luau_lex.specs.Computed.Brackets.{level, closing_place}
+use Rattle.luau_lex.specs.Computed.Strings.{ends_inside, inside_len, malformed_at}
+use Rattle.luau_lex.specs.Names.{is_name}
 use Rattle.luau_lex.specs.Forms.{IsMarked, IsLong}
-use Rattle.luau_lex.proofs.SpellingLemmas.{and_at, run_least}
+use Rattle.luau_lex.proofs.SpellingLemmas.{or_at, and_at, run_least}
 use Rattle.luau_lex.proofs.LongLemmas.{opens_front, long_again}
 use Rattle.luau_lex.proofs.RefuseLemmas.{marked_again}
 use Rattle.luau_lex.proofs.WordLemmas.{word_longest, numeral_word}
-use Rattle.luau_lex.proofs.FormLemmas.{choose, or_at, begins_with}
+use Rattle.luau_lex.proofs.FormLemmas.{choose, begins_with}
 
 name_no_blank : (b : ℕ) → is_name_start b ≡ true → is_blank b ≡ false
 name_no_blank b h = grind arith

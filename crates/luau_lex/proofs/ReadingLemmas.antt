@@ -5,9 +5,10 @@ use Rattle.luau_lex.specs.declared.token.LexError.{LexError}
 use Rattle.luau_lex.specs.declared.piece.Piece.{Piece}
 use Rattle.luau_lex.specs.declared.piece.Piece.TheVariants.{Gap, Found, Faulty}
 use Rattle.luau_lex.specs.declared.piece.Open.{Open}
-use Rattle.luau_lex.specs.Pieces.{piece, innermost, opens_behind}
-use Rattle.luau_lex.specs.Tokens.{Tok, token_at, with_token, behind, tokens_from}
-use Rattle.luau_lex.specs.Steps.{with_tokens}
+use Rattle.luau_lex.specs.Computed.Pieces.{piece, innermost, opens_behind}
+use Rattle.luau_lex.specs.Token.{Tok}
+use Rattle.luau_lex.specs.Computed.Tokens.{token_at, with_token, behind, tokens_from}
+use Rattle.luau_lex.specs.Computed.Steps.{with_tokens}
 
 -- the bytes of a piece that has begun are passed over
 pub tokens_skip : (opens : List Open) (begun at : ℕ) (text : List ℕ) → tokens_from opens begun at text ≡ tokens_from opens 0 (at + begun) (drop begun text)

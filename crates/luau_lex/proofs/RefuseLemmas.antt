@@ -3,8 +3,8 @@ use Rattle.std.proofs.Common.{◌≡◌, ◌≢◌, ℕ, ◌+◌, ◌<◌, true,
 use Rattle.std.proofs.Math.Seq.{take-append_seam, get_or-append_seam}
 use Rattle.luau_lex.specs.declared.token.Kind.TheVariants.{Quoted, Long, Whole}
 use Rattle.luau_lex.specs.Bytes.{backslash, double_quote, single_quote, backquote}
-use Rattle.luau_lex.specs.Brackets.{level, closes, closing_place}
-use Rattle.luau_lex.specs.Strings.{element, ends_inside, inside_len, malformed_at}
+use Rattle.luau_lex.specs.Computed.Brackets.{level, closes, closing_place}
+use Rattle.luau_lex.specs.Computed.Strings.{element, ends_inside, inside_len, malformed_at}
 use Rattle.luau_lex.specs.Spellings.{written}
 use Rattle.luau_lex.specs.Forms.{IsMarked, IsLong, HasForm, IsLineComment, IsLongComment}
 use Rattle.luau_lex.proofs.InsideLemmas.{inside_again}

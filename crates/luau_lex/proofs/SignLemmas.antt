@@ -1,8 +1,9 @@
 -- The signs of the table are those that are read, and the longest is read.
 use Rattle.std.proofs.Common.{◌≡◌, ℕ, zero, suc, ◌<◌, ◌≤◌, Bool, true, false, ◌&&◌, eqb, nat_le, cond, List, [], ◌∷◌, length, take, slice_index, sym, refl, ap, subst, ◌∙◌, arith, le-leb}
 use Rattle.std.proofs.lemmas.Bool.{leb-true}
-use Rattle.luau_lex.specs.Signs.{sign_len, sign_len_of, is_sign}
-use Rattle.luau_lex.specs.Grammar.{Longest}
+use Rattle.luau_lex.specs.Computed.Signs.{sign_len, sign_len_of}
+use Rattle.luau_lex.specs.Signs.{is_sign}
+use Rattle.luau_lex.proofs.LongestLemmas.{Longest}
 
 -- the longest sign that is listed among these three fronts
 abbrev pub listed_len : ℕ → ℕ → ℕ → ℕ

@@ -1,5 +1,5 @@
 -- How the inside of a string is read is how it is spelled.
-use Rattle.std.proofs.Common.{◌≡◌, ◌≢◌, ◌⊎◌, inl, inr, ℕ, suc, ◌+◌, ◌*◌, ◌<◌, ◌≤◌, min, Bool, true, false, ◌&&◌, nat_le, nat_lt, eqb, cond, List, [], ◌∷◌, ◌++◌, length, take, drop, slice_index, Some, None, sym, refl, ap, ap₂, subst, ◌∙◌, arith, append_assoc, ne_eqb, eqb-true, eq-eqb, le-leb, leb-true, lt-ltb, ltb-true, length-take-le, drop-cons, length-append}
+use Rattle.std.proofs.Common.{◌≡◌, ◌≢◌, ◌⊎◌, inl, inr, ℕ, suc, ◌+◌, ◌*◌, ◌<◌, ◌≤◌, min, Bool, true, false, ◌&&◌, ◌||◌, nat_le, nat_lt, eqb, cond, List, [], ◌∷◌, ◌++◌, length, take, drop, slice_index, Some, None, sym, refl, ap, ap₂, subst, ◌∙◌, arith, append_assoc, ne_eqb, eqb-true, eq-eqb, le-leb, leb-true, lt-ltb, ltb-true, length-take-le, drop-cons, length-append}
 use Rattle.std.specs.List.{prefix_len, list_all}
 use Rattle.std.proofs.str.Laws.{order}
 use Rattle.std.proofs.lemmas.List.{take-append-drop, get_or_past}
@@ -9,12 +9,17 @@ use Rattle.std.specs.Char.{is_ascii_digit, is_ascii_hexdigit}
 use Rattle.std.proofs.Math.Dec.{eqb-suc-zero}
 use Rattle.std.proofs.Math.Seq.{get_or-append_seam, take-append_seam}
 use Rattle.luau_lex.specs.Bytes.{line_feed, carriage_return, backslash, brace, closing_brace, is_blank}
-use Rattle.luau_lex.specs.Strings.{Element, digit_number, number_in, utf8_scheme, byte_escape, decimal_escape, code_escape, letter_escape, escape, element}
+use Rattle.luau_lex.specs.Computed.Strings.{Element, byte_escape, decimal_escape, code_escape, letter_escape, escape, element}
+use Rattle.luau_lex.specs.Numbers.{digit_number, number_in, utf8_scheme}
 use Rattle.luau_lex.specs.Spellings.{letter_u, letter_x, letter_z, Spelling, Plain, Skip, Hex, Decimal, CodePoint, LineEnd, Escaped, CutShort, BadHex, BadCodePoint, BadDecimal, written, letters, listed_or_itself, stands_for, AreDecimalDigits, AreHexDigits, IsSpelling}
 
 pub and_at : (a b : Bool) {C : Type 0} → a && b ≡ true → (a ≡ true → b ≡ true → C) → C
 and_at true b h f = f refl h
 and_at false b h f = absurd (cc)
+
+pub or_at : (a b : Bool) {C : Type 0} → a || b ≡ true → (a ≡ true → C) → (b ≡ true → C) → C
+or_at true b h f g = f refl
+or_at false b h f g = g h
 
 -- an element of so many bytes that stands for these
 abbrev pub good : ℕ → List ℕ → Element

@@ -4,8 +4,9 @@ use Rattle.std.proofs.lemmas.List.{drop-drop}
 use Rattle.luau_lex.specs.declared.elements.Parsed.{Parsed}
 use Rattle.std.specs.Prelude.{option_map, unwrap_or, is_some, is_none}
 use Rattle.std.proofs.Math.Nat.{mul-le-mul_left}
-use Rattle.luau_lex.specs.Steps.{seen, stands_value}
-use Rattle.luau_lex.specs.Strings.{Element, element, ends_inside, inside_from, inside_len, malformed_from, malformed_at, value_from, value_of_inside, number_behind, digit_number}
+use Rattle.luau_lex.specs.Computed.Steps.{seen, stands_value}
+use Rattle.luau_lex.specs.Computed.Strings.{Element, element, ends_inside, inside_from, inside_len, malformed_from, malformed_at, value_from, value_of_inside}
+use Rattle.luau_lex.specs.Numbers.{number_behind, digit_number}
 
 -- what is not missing is there
 none_is_not : (o : Option (List ℕ)) → is_none o ≡ false → is_some o ≡ true

@@ -11,19 +11,23 @@ use Rattle.luau_lex.specs.declared.piece.Piece.TheVariants.{Gap, Found, Faulty}
 use Rattle.luau_lex.specs.declared.piece.Open.{Open}
 use Rattle.luau_lex.specs.declared.piece.Open.TheVariants.{Brace, Part}
 use Rattle.luau_lex.specs.Bytes.{minus, backquote, brace, closing_brace}
-use Rattle.luau_lex.specs.Numerals.{begins_numeral, numeral_len}
-use Rattle.luau_lex.specs.Brackets.{level}
-use Rattle.luau_lex.specs.Signs.{sign_len}
-use Rattle.luau_lex.specs.Strings.{inside_len, malformed_at}
-use Rattle.luau_lex.specs.Pieces.{unless_malformed, part_piece, comment_of, comment_piece, sign_piece, part_open, innermost, closing_piece, other_piece, piece, opens_behind}
-use Rattle.luau_lex.specs.Tokens.{Tok, token_at, with_token, first_line_len}
-use Rattle.luau_lex.specs.Grammar.{StandsHere, Reads, HasTokens, StandInOrder}
+use Rattle.luau_lex.specs.Numerals.{begins_numeral}
+use Rattle.luau_lex.specs.Computed.Numerals.{numeral_len}
+use Rattle.luau_lex.specs.Computed.Brackets.{level}
+use Rattle.luau_lex.specs.Computed.Signs.{sign_len}
+use Rattle.luau_lex.specs.Computed.Strings.{inside_len, malformed_at}
+use Rattle.luau_lex.specs.Computed.Pieces.{unless_malformed, part_piece, comment_of, comment_piece, sign_piece, part_open, innermost, closing_piece, other_piece, piece, opens_behind}
+use Rattle.luau_lex.specs.Token.{Tok}
+use Rattle.luau_lex.specs.Computed.Tokens.{token_at, with_token}
+use Rattle.luau_lex.specs.Places.{first_line_len, StandInOrder}
+use Rattle.luau_lex.specs.Computed.Reads.{StandsHere, Reads, HasTokens}
 use Rattle.luau_lex.specs.Forms.{HasForm}
 use Rattle.luau_lex.specs.Braces.{braces_by, braces_behind, string_open, goes_on_with_string, MayStand, MatchBraces}
 use Rattle.luau_lex.specs.LongestTokens.{NoLongerToken, NoLongerWord, NoComment, AreLongest}
 use Rattle.luau_lex.proofs.FormLemmas.{choose, unless_found, begins_with, comment_no_token, piece_form}
-use Rattle.luau_lex.proofs.OrderLemmas.{left_behind, reads_order}
+use Rattle.luau_lex.proofs.OrderLemmas.{left_behind}
 use Rattle.luau_lex.proofs.WordLemmas.{word_longest}
+use Rattle.luau_lex.proofs.NumeralLemmas.{numeral_is_read}
 use Rattle.luau_lex.proofs.PlaceLemmas.{front_byte, begins_append, numeral_found, at_numeral, at_closing}
 use Rattle.luau_lex.proofs.LongestTokenLemmas.{form_bound}
 
@@ -88,7 +92,7 @@ no_longer braces at text kind n is k m longer fits may form =
 no_longer_word : (ob : Option Open) (at : ℕ) (text : List ℕ) (kind : Kind) (n : ℕ) → 0 < length text → piece ob at text ≡ Found kind n → kind ≡ Numeral → NoLongerWord text n
 no_longer_word ob at text kind n some is numeral m longer fits word =
     let form : HasForm Numeral (take n text) = subst (λ k. HasForm k (take n text)) numeral (piece_form ob at text kind n some is) in
-    let begins = ap begins_numeral (sym (take-append-drop n text)) ∙ begins_append (take n text) (drop n text) form.0 in
+    let begins = ap begins_numeral (sym (take-append-drop n text)) ∙ begins_append (take n text) (drop n text) (numeral_is_read (take n text) form).0 in
     let len = numeral_found at text kind n (sym (at_numeral ob at text begins) ∙ is) in
     let bound = word_longest (take m text) (drop m text) word in
     omega (arith, len, bound, ap numeral_len (take-append-drop m text), length-take-le m text fits, longer)
@@ -189,41 +193,3 @@ longest_token braces kind at n text ts stands h =
       subst (λ k. NoComment (drop k text)) (sym none) (no_comment ob at text kind n stands.here),
       subst (λ k. AreLongest (braces_by kind at (slice_index (take n text) 0) braces) (at + n) (drop k text) ts) (sym width) h,
     )
-
--- what both laws say of the tokens of what is left
-abbrev pub Right : List Open → ℕ → List ℕ → List Tok → Type 0
-Right braces at text ts = MatchBraces braces ts × AreLongest braces at text ts
-
-right_found : (braces : List Open) (kind : Kind) (at n : ℕ) (text : List ℕ) (ts : List Tok) (rest : Result (List Tok) LexError) → StandsHere (outward braces) at text (Found kind n) → ((us : List Tok) → rest ≡ Ok us → Right (braces_by kind at (slice_index (take n text) 0) braces) (at + n) (drop n text) us) → Ok ts ≡ with_token (token_at kind n at text) rest → Right braces at text ts
-right_found braces kind at n text ts (Ok us) stands more is =
-    let same : token_at kind n at text ∷ us ≡ ts = cc in
-    let h = more us refl in
-    subst (Right braces at text) same (
-      (
-        may_stand braces at text kind n stands.some stands.within.0 stands.here,
-        sign_stands braces at text kind n stands.within.0 stands.here,
-        h.0,
-      ),
-      longest_token braces kind at n text us stands h.1,
-    )
-right_found braces kind at n text ts (Err e) stands more is = absurd (cc)
-
-reads_right : (braces opens : List Open) (at : ℕ) (text : List ℕ) (ps : List Piece) (r : Result (List Tok) LexError) (ts : List Tok) → opens ≡ outward braces → r ≡ Ok ts → Reads opens at text ps r → Right braces at text ts
-reads_right braces opens at text [] r ts same is h = let none : [] ≡ ts = cc in subst (Right braces at text) none (tt, tt)
-reads_right braces opens at text (Gap n ∷ ps) r ts same is h =
-    let more = reads_right braces opens (at + n) (drop n text) ps r ts same is h.1 in
-    (more.0, longest_behind braces at n text ts (reads_order opens (at + n) (drop n text) ps r ts is h.1) more.1)
-reads_right braces opens at text (Found kind n ∷ ps) r ts same is h =
-    let first = first_of n text h.1.within.0 in
-    let behind : opens_behind opens at kind (slice_index text 0) ≡ outward (braces_by kind at (slice_index (take n text) 0) braces) =
-    ap (λ o. opens_behind o at kind (slice_index text 0)) same ∙ ap (opens_behind (outward braces) at kind) (sym first) ∙ behind_is kind at (slice_index (take n text) 0) braces in
-    right_found braces kind at n text ts h.0 (subst (λ o. StandsHere o at text (Found kind n)) same h.1)
-    (λ us is_rest. reads_right (braces_by kind at (slice_index (take n text) 0) braces) (opens_behind opens at kind (slice_index text 0)) (at + n) (drop n text) ps h.0 us behind is_rest h.2)
-    (sym is ∙ h.3)
-reads_right braces opens at text (Faulty e ∷ ps) r ts same is h = absurd (cc)
-
-pub tokens_match : (text : List ℕ) (ts : List Tok) → HasTokens text (Ok ts) → MatchBraces [] ts
-tokens_match text ts h = (reads_right [] [] (first_line_len text) (drop (first_line_len text) text) h.0 (Ok ts) ts refl refl h.1).0
-
-pub tokens_longest : (text : List ℕ) (ts : List Tok) → HasTokens text (Ok ts) → AreLongest [] (first_line_len text) (drop (first_line_len text) text) ts
-tokens_longest text ts h = (reads_right [] [] (first_line_len text) (drop (first_line_len text) text) h.0 (Ok ts) ts refl refl h.1).1

@@ -5,10 +5,12 @@ use Rattle.std.proofs.Math.Utf8.{encode}
 use Rattle.luau_lex.specs.declared.token.Kind.{Kind}
 use Rattle.luau_lex.specs.declared.token.Kind.TheVariants.{Name, Word, Numeral, Quoted, Long, Whole, Begin, Mid, End, Sign}
 use Rattle.luau_lex.specs.Bytes.{line_feed, carriage_return, equals, bracket, closing_bracket}
-use Rattle.luau_lex.specs.Brackets.{equals_len}
-use Rattle.luau_lex.specs.Strings.{digit_number, number_behind, number_in, utf8_scheme, value_of_inside}
+use Rattle.luau_lex.specs.Computed.Brackets.{equals_len}
+use Rattle.luau_lex.specs.Numbers.{digit_number, number_behind, number_in, utf8_scheme}
+use Rattle.luau_lex.specs.Computed.Strings.{value_of_inside}
 use Rattle.luau_lex.specs.Spellings.{Spelling, written, AreSpellings, stand_for}
-use Rattle.luau_lex.specs.Values.{between_marks, is_line_end_pair, without_first_line_end, with_line_feeds, long_value, marked_value, string_value}
+use Rattle.luau_lex.specs.Computed.Values.{between_marks, long_value, marked_value, string_value}
+use Rattle.luau_lex.specs.LineEnds.{is_line_end_pair, without_first_line_end, with_line_feeds}
 use Rattle.luau_lex.specs.Forms.{bracket_of, in_brackets}
 use Rattle.luau_lex.proofs.MeaningLemmas.{narrow_all, value_spelled}
 use Rattle.luau_lex.proofs.LongLemmas.{signs_in, bracket_len}

@@ -10,18 +10,17 @@ use Rattle.luau_lex.specs.declared.token.LexError.TheVariants.{UnfinishedString,
 use Rattle.luau_lex.specs.declared.piece.Open.{Open}
 use Rattle.luau_lex.specs.declared.piece.Open.TheVariants.{Brace, Part}
 use Rattle.luau_lex.specs.Bytes.{brace, closing_brace}
+use Rattle.luau_lex.specs.Token.{Tok, seen_token}
 use Rattle.luau_lex.specs.Numerals.{begins_numeral}
-use Rattle.luau_lex.specs.Tokens.{Tok, seen_token, first_line_len}
-use Rattle.luau_lex.specs.Grammar.{HasTokens, StandInOrder}
+use Rattle.luau_lex.specs.Places.{first_line_len, StandInOrder, IsWithinText, fault_offset}
+use Rattle.luau_lex.specs.Faults.{BeginsString, IsFault}
+use Rattle.luau_lex.specs.Lexed.{StandApart, Lexed}
+use Rattle.luau_lex.proofs.OrderLemmas.{first_line_within}
 use Rattle.luau_lex.specs.Spellings.{Spelling, written}
 use Rattle.luau_lex.specs.Braces.{braces_by, braces_behind, string_open}
-use Rattle.luau_lex.specs.Faults.{BeginsString, IsFault, FaultBehind}
-use Rattle.luau_lex.specs.Places.{IsWithinText, fault_offset}
-use Rattle.luau_lex.proofs.OrderLemmas.{first_line_within, tokens_in_text}
-use Rattle.luau_lex.proofs.StopLemmas.{text_stops}
 
 -- each token begins at this offset or behind it, and is of a byte at least, within the text
-pub spans_within : (at : ℕ) (text : List ℕ) (vs : List Token) → StandInOrder at text (map seen_token vs) → (k : ℕ) (d : Token) → k < length vs → (at ≤ (slice_index_or vs k d).span.start) × IsWithinText (at + length text) (slice_index_or vs k d).span
+spans_within : (at : ℕ) (text : List ℕ) (vs : List Token) → StandInOrder at text (map seen_token vs) → (k : ℕ) (d : Token) → k < length vs → (at ≤ (slice_index_or vs k d).span.start) × IsWithinText (at + length text) (slice_index_or vs k d).span
 spans_within at text [] h k d short = absurd (omega arith)
 spans_within at text (v ∷ vs) h zero d short = (h.0, (h.1, h.2))
 spans_within at text (v ∷ vs) h (suc k) d short =
@@ -30,7 +29,7 @@ spans_within at text (v ∷ vs) h (suc k) d short =
     (omega (arith, h.0, h.1, more.0), (more.1.0, omega (arith, h.0, h.1, h.2, left, more.1.1)))
 
 -- each token ends before the next ones begin
-pub spans_apart : (at : ℕ) (text : List ℕ) (vs : List Token) → StandInOrder at text (map seen_token vs) → (i j : ℕ) (d : Token) → i < j → j < length vs → (slice_index_or vs i d).span.end ≤ (slice_index_or vs j d).span.start
+spans_apart : (at : ℕ) (text : List ℕ) (vs : List Token) → StandInOrder at text (map seen_token vs) → (i j : ℕ) (d : Token) → i < j → j < length vs → (slice_index_or vs i d).span.end ≤ (slice_index_or vs j d).span.start
 spans_apart at text [] h i j d less short = absurd (omega arith)
 spans_apart at text (v ∷ vs) h i zero d less short = absurd (omega arith)
 spans_apart at text (v ∷ vs) h zero (suc j) d less short =
@@ -107,8 +106,20 @@ fault_here braces at text (DoubleBrace place) before h =
     omega (arith, h.5, ap length h.3.2, length-append (flat_map written h.1) (brace ∷ brace ∷ h.2))
 fault_here braces at text NoMemory before h = absurd h
 
+-- a fault stands at a byte
+pub fault_some : (braces : List Open) (at : ℕ) (text : List ℕ) (e : LexError) → IsFault braces at text e → 0 < length text
+fault_some braces at text (StrayByte place) h = h.1.some
+fault_some braces at text (BadNumeral place) h =
+    omega (arith, numeral_some (take h.1 text) h.3.4, length-take-le h.1 text h.2, h.2)
+fault_some braces at text (UnfinishedComment place) h = omega (arith, ap length h.3)
+fault_some braces at text (UnfinishedString place) (inl h) = omega (arith, ap length h.3)
+fault_some braces at text (UnfinishedString place) (inr h) = omega (arith, ap length h.3.2)
+fault_some braces at text (BadEscape place) h = omega (arith, ap length h.7.2)
+fault_some braces at text (DoubleBrace place) h = omega (arith, ap length h.3.2)
+fault_some braces at text NoMemory h = absurd h
+
 -- the fault behind these tokens lies within the text
-pub fault_within : (braces : List Open) (at : ℕ) (text : List ℕ) (ts : List Tok) (e : LexError) → BeginBefore at braces → StandInOrder at text ts → FaultBehind braces at text ts e → fault_offset e < at + length text
+fault_within : (braces : List Open) (at : ℕ) (text : List ℕ) (ts : List Tok) (e : LexError) → BeginBefore at braces → StandInOrder at text ts → StandApart (Some e) braces at text ts → fault_offset e < at + length text
 fault_within braces at text [] e before order h =
     omega (arith, fault_here braces (at + h.0) (drop h.0 text) e (before_more at (at + h.0) braces (omega arith) before) h.3, length-drop h.0 text, h.1)
 fault_within braces at text (t ∷ ts) e before order h =
@@ -116,16 +127,16 @@ fault_within braces at text (t ∷ ts) e before order h =
     let left = length-drop (t.span.end - at) text in
     omega (arith, fault_within (braces_behind t braces) t.span.end (drop (t.span.end - at) text) ts e more order.4 h.1, left, order.0, order.1, order.2)
 
-pub text_spans : (text : List ℕ) (vs : List Token) → HasTokens text (Ok (map seen_token vs)) → All (λ t. IsWithinText (length text) t.span) vs
+pub text_spans : (text : List ℕ) (vs : List Token) → Lexed text (map seen_token vs) None → All (λ t. IsWithinText (length text) t.span) vs
 text_spans text vs h k d short =
-    let there = spans_within 0 text vs (tokens_in_text text (map seen_token vs) h) k d short in
-    (there.1.0, omega (arith, there.1.1))
-
-pub text_apart : (text : List ℕ) (vs : List Token) → HasTokens text (Ok (map seen_token vs)) → AllPairs (λ s t. s.span.end ≤ t.span.start) vs
-text_apart text vs h = spans_apart 0 text vs (tokens_in_text text (map seen_token vs) h)
-
-pub text_fault : (text : List ℕ) (e : LexError) → HasTokens text (Err e) → fault_offset e < length text
-text_fault text e h =
-    let stops = text_stops text e h in
     let n = first_line_len text in
-    omega (arith, fault_within [] n (drop n text) stops.0 e tt stops.1.in_order stops.1.fault, length-drop n text, first_line_within text)
+    let there = spans_within n (drop n text) vs h.in_order k d short in
+    (there.1.0, omega (arith, there.1.1, length-drop n text, first_line_within text))
+
+pub text_apart : (text : List ℕ) (vs : List Token) → Lexed text (map seen_token vs) None → AllPairs (λ s t. s.span.end ≤ t.span.start) vs
+text_apart text vs h = spans_apart (first_line_len text) (drop (first_line_len text) text) vs h.in_order
+
+pub text_fault : (text : List ℕ) (ts : List Tok) (e : LexError) → Lexed text ts (Some e) → fault_offset e < length text
+text_fault text ts e h =
+    let n = first_line_len text in
+    omega (arith, fault_within [] n (drop n text) ts e tt h.in_order h.apart, length-drop n text, first_line_within text)

@@ -6,9 +6,9 @@ use Rattle.std.proofs.str.Laws.{order}
 use Rattle.std.proofs.Math.Seq.{drop-append_seam, drop-append-add, take-add, take-length}
 use Rattle.std.proofs.lemmas.List.{take-append-drop, drop-drop, drop-append-le, get_or-append-add}
 use Rattle.std.proofs.lemmas.List.Sums.{prefix_len_passes}
-use Rattle.luau_lex.specs.Bytes.{dot, is_name_byte, is_numeral_byte, is_digit_or_underscore, is_hex_or_underscore, is_binary_or_underscore}
-use Rattle.luau_lex.specs.Numerals.{begins_numeral, is_exponent_letter, is_exponent_sign, exponent_len, numeral_len, is_digits, is_exponent_or_none, after_fraction, is_decimal, is_hex_part, is_binary_part, is_numeral}
-use Rattle.luau_lex.specs.LongestTokens.{IsExponentMark, IsNumeralWord}
+use Rattle.luau_lex.specs.Bytes.{dot, is_name_byte, is_numeral_byte, is_digit_or_underscore, is_hex_or_underscore, is_binary_or_underscore, is_exponent_letter, is_exponent_sign}
+use Rattle.luau_lex.specs.Numerals.{begins_numeral, IsExponentMark, IsNumeralWord}
+use Rattle.luau_lex.specs.Computed.Numerals.{exponent_len, numeral_len, is_digits, is_exponent_or_none, after_fraction, is_decimal, is_hex_part, is_binary_part, is_numeral}
 use Rattle.luau_lex.proofs.LongestLemmas.{run_all}
 use Rattle.luau_lex.proofs.SpellingLemmas.{and_at, both_at, run_least}
 

@@ -5,7 +5,7 @@ use Rattle.luau_lex.specs.declared.token.Kind.TheVariants.{Name, Word, Numeral, 
 use Rattle.luau_lex.specs.declared.piece.Open.{Open}
 use Rattle.luau_lex.specs.declared.piece.Open.TheVariants.{Brace, Part}
 use Rattle.luau_lex.specs.Bytes.{brace, closing_brace}
-use Rattle.luau_lex.specs.Tokens.{Tok}
+use Rattle.luau_lex.specs.Token.{Tok}
 
 -- The open braces behind a token, from the innermost to the outermost. The first part of an interpolated string
 -- opens one and its last closes it; so do the signs of braces.

@@ -1,5 +1,5 @@
 -- The bytes that the token grammar speaks of, and their classes.
-use Rattle.std.specs.Prelude.{ℕ, Bool, ◌||◌, ◌&&◌, not, ◌==◌, nat_le}
+use Rattle.std.specs.Prelude.{ℕ, Bool, ◌||◌, ◌&&◌, not, ◌==◌, nat_le, ◌+◌, if◌then◌else◌}
 use Rattle.std.specs.Char.{is_ascii_digit, is_ascii_alphabetic, is_ascii_alphanumeric, is_ascii_hexdigit}
 
 abbrev pub line_feed : ℕ
@@ -82,3 +82,11 @@ is_binary_or_underscore b = ((b == 48) || (b == 49)) || (b == underscore)
 
 abbrev pub is_no_line_feed : ℕ → Bool
 is_no_line_feed b = not (b == line_feed)
+
+-- e or E
+abbrev pub is_exponent_letter : ℕ → Bool
+is_exponent_letter b = (b == 101) || (b == 69)
+
+-- plus or minus
+abbrev pub is_exponent_sign : ℕ → Bool
+is_exponent_sign b = (b == 43) || (b == 45)

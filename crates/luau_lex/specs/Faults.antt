@@ -3,15 +3,15 @@ use Rattle.std.specs.Prelude.{◌≡◌, ◌≢◌, ℕ, ◌+◌, ◌-◌, ◌<�
 use Rattle.luau_lex.specs.declared.token.LexError.{LexError}
 use Rattle.luau_lex.specs.declared.token.LexError.TheVariants.{UnfinishedString, UnfinishedComment, BadEscape, BadNumeral, StrayByte, DoubleBrace, NoMemory}
 use Rattle.luau_lex.specs.declared.piece.Open.{Open}
-use Rattle.luau_lex.specs.Bytes.{line_feed, carriage_return, double_quote, single_quote, minus, backquote, brace, bracket, closing_bracket, closing_brace, is_blank, is_name_start}
-use Rattle.luau_lex.specs.Numerals.{begins_numeral, is_numeral}
+use Rattle.luau_lex.specs.Braces.{braces_behind, string_open, MatchBraces}
+use Rattle.luau_lex.specs.Bytes.{line_feed, carriage_return, double_quote, single_quote, minus, bracket, closing_bracket, backquote, brace, closing_brace, is_blank, is_name_start}
+use Rattle.luau_lex.specs.Forms.{bracket_of, HaveForms, IsGap}
+use Rattle.luau_lex.specs.LongestTokens.{NoLongerWord, AreLongest}
+use Rattle.luau_lex.specs.Numerals.{begins_numeral, IsNumeral, IsNumeralWord}
+use Rattle.luau_lex.specs.Places.{StandInOrder}
 use Rattle.luau_lex.specs.Signs.{is_sign}
 use Rattle.luau_lex.specs.Spellings.{Spelling, written, stands_for, AreSpellings, are_well_formed}
-use Rattle.luau_lex.specs.Tokens.{Tok}
-use Rattle.luau_lex.specs.Grammar.{StandInOrder}
-use Rattle.luau_lex.specs.Forms.{bracket_of, HaveForms, IsGap}
-use Rattle.luau_lex.specs.Braces.{braces_behind, string_open, MatchBraces}
-use Rattle.luau_lex.specs.LongestTokens.{IsNumeralWord, NoLongerWord, AreLongest}
+use Rattle.luau_lex.specs.Token.{Tok}
 
 -- neither blanks nor a name, a numeral, a string or a sign begins at the front
 pub record BeginsNothing (text : List ℕ) : Type 0 where
@@ -54,7 +54,7 @@ abbrev pub IsFault : List Open → ℕ → List ℕ → LexError → Type 0
 IsFault opens at text (StrayByte place) = (place ≡ at) × BeginsNothing text
 IsFault opens at text (BadNumeral place) =
     (place ≡ at) × (n : ℕ) × (n ≤ length text) × IsNumeralWord (take n text) × NoLongerWord text n
-    × (is_numeral (take n text) ≡ false)
+    × (IsNumeral (take n text) → ⊥)
 IsFault opens at text (UnfinishedComment place) =
     (place ≡ at) × (signs : ℕ) × (behind : List ℕ)
     × (text ≡ minus ∷ minus ∷ (bracket_of bracket signs ++ behind)) × NeverCloses signs behind
@@ -71,20 +71,3 @@ IsFault opens at text (DoubleBrace place) =
     × HasInside opens at text backquote start inside (brace ∷ brace ∷ behind)
     × (are_well_formed inside ≡ true) × (place ≡ at + 1 + length (flat_map written inside))
 IsFault opens at text NoMemory = ⊥
-
--- What is left of a text, from this offset on and within these open braces, is these tokens and then the fault,
--- with blanks and comments alone between them.
-abbrev pub FaultBehind : List Open → ℕ → List ℕ → List Tok → LexError → Type 0
-FaultBehind opens at text [] e =
-    (n : ℕ) × (n ≤ length text) × IsGap (take n text) (drop n text) × IsFault opens (at + n) (drop n text) e
-FaultBehind opens at text (t ∷ ts) e =
-    IsGap (take (t.span.start - at) text) (drop (t.span.start - at) text)
-    × FaultBehind (braces_behind t opens) t.span.end (drop (t.span.end - at) text) ts e
-
--- These tokens stand before the fault of what is left of a text, as they would without it.
-pub record StopsAt (opens : List Open) (at : ℕ) (text : List ℕ) (ts : List Tok) (e : LexError) : Type 0 where
-  pub in_order : StandInOrder at text ts
-  pub forms : HaveForms ts
-  pub braces : MatchBraces opens ts
-  pub longest : AreLongest opens at text ts
-  pub fault : FaultBehind opens at text ts e

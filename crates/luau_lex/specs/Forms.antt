@@ -1,15 +1,14 @@
--- The forms of tokens, by cases on their bytes.
-use Rattle.std.specs.Prelude.{◌≡◌, ℕ, ◌-◌, ◌≤◌, true, false, ◌⊎◌, List, [], ◌∷◌, ◌++◌, length, slice_index, flat_map, replicate, take, drop}
+-- The forms of tokens, and of what stands between them, by cases on their bytes.
+use Rattle.std.specs.Prelude.{◌≡◌, ℕ, ◌-◌, ◌≤◌, true, false, ◌⊎◌, List, [], ◌∷◌, ◌++◌, length, slice_index, flat_map, replicate, take, drop, ◌+◌, ◌<◌, Bool, ◌&&◌, nat_lt}
 use Rattle.std.specs.List.{list_all}
 use Rattle.luau_lex.specs.declared.token.Kind.{Kind}
 use Rattle.luau_lex.specs.declared.token.Kind.TheVariants.{Name, Word, Numeral, Quoted, Long, Whole, Begin, Mid, End, Sign}
-use Rattle.luau_lex.specs.Bytes.{line_feed, minus, is_no_line_feed, double_quote, single_quote, equals, bracket, closing_bracket, backquote, brace, closing_brace}
-use Rattle.luau_lex.specs.Names.{is_listed, reserved_words}
-use Rattle.luau_lex.specs.Numerals.{begins_numeral, is_numeral}
+use Rattle.luau_lex.specs.Bytes.{line_feed, double_quote, single_quote, minus, equals, bracket, closing_bracket, backquote, brace, closing_brace, is_blank, is_no_line_feed}
+use Rattle.luau_lex.specs.Names.{is_listed, reserved_words, is_name}
+use Rattle.luau_lex.specs.Numerals.{IsNumeral}
 use Rattle.luau_lex.specs.Signs.{is_sign}
 use Rattle.luau_lex.specs.Spellings.{Spelling, written, AreSpellings, are_well_formed}
-use Rattle.luau_lex.specs.Grammar.{is_name, is_blanks}
-use Rattle.luau_lex.specs.Tokens.{Tok}
+use Rattle.luau_lex.specs.Token.{Tok}
 
 -- A string of this mark between these two bytes: what stands between them is spelled as the inside of such a
 -- string, with no malformed escape.
@@ -39,7 +38,7 @@ IsLong signs body bytes = (bytes ≡ in_brackets signs body) × ClosesFirst sign
 abbrev pub HasForm : Kind → List ℕ → Type 0
 HasForm Name bytes = (is_name bytes ≡ true) × (is_listed bytes reserved_words ≡ false)
 HasForm Word bytes = (is_name bytes ≡ true) × (is_listed bytes reserved_words ≡ true)
-HasForm Numeral bytes = (begins_numeral bytes ≡ true) × (is_numeral bytes ≡ true)
+HasForm Numeral bytes = IsNumeral bytes
 HasForm Quoted bytes = IsMarked double_quote double_quote double_quote bytes ⊎ IsMarked single_quote single_quote single_quote bytes
 HasForm Long bytes = (signs : ℕ) × (body : List ℕ) × IsLong signs body bytes
 HasForm Whole bytes = IsMarked backquote backquote backquote bytes
@@ -56,6 +55,10 @@ HaveForms (t ∷ ts) = HasForm t.kind t.bytes × HaveForms ts
 -- no long bracket opens at the front
 abbrev pub NoneOpens : List ℕ → Type 0
 NoneOpens bytes = (signs : ℕ) (behind : List ℕ) → bytes ≡ bracket_of bracket signs ++ behind → ⊥
+
+-- one or more blanks
+abbrev pub is_blanks : List ℕ → Bool
+is_blanks bytes = nat_lt 0 (length bytes) && list_all is_blank bytes
 
 -- a line ends before these bytes: at a line feed, or at the end of the text
 abbrev pub EndsLine : List ℕ → Type 0
@@ -84,10 +87,3 @@ IsGapOf (part ∷ parts) bytes behind =
 -- blanks and comments alone, or nothing, before these bytes
 abbrev pub IsGap : List ℕ → List ℕ → Type 0
 IsGap bytes behind = (parts : List (List ℕ)) × IsGapOf parts bytes behind
-
--- Blanks and comments alone stand before each token, and behind the last, in the text whose rest from this
--- offset on is given.
-abbrev pub StandApart : ℕ → List ℕ → List Tok → Type 0
-StandApart at text [] = IsGap text []
-StandApart at text (t ∷ ts) =
-    IsGap (take (t.span.start - at) text) (drop (t.span.start - at) text) × StandApart t.span.end (drop (t.span.end - at) text) ts

@@ -1,27 +1,13 @@
 -- No token could be longer at its place.
 use Rattle.std.specs.Prelude.{◌≡◌, ◌≢◌, ℕ, ◌-◌, ◌<◌, ◌≤◌, ◌⊎◌, Bool, true, false, List, [], ◌∷◌, ◌++◌, length, take, drop, slice_index}
-use Rattle.std.specs.List.{list_all}
 use Rattle.luau_lex.specs.declared.token.Kind.{Kind}
 use Rattle.luau_lex.specs.declared.token.Kind.TheVariants.{Name, Word, Numeral, Quoted, Long, Whole, Begin, Mid, End, Sign}
 use Rattle.luau_lex.specs.declared.piece.Open.{Open}
-use Rattle.luau_lex.specs.Bytes.{minus, brace, is_numeral_byte, is_name_byte}
-use Rattle.luau_lex.specs.Numerals.{begins_numeral, is_exponent_letter, is_exponent_sign}
-use Rattle.luau_lex.specs.Tokens.{Tok}
-use Rattle.luau_lex.specs.Forms.{HasForm, NoneOpens}
 use Rattle.luau_lex.specs.Braces.{braces_behind, MayStand}
-
--- an exponent's letter and perhaps its sign, or nothing
-abbrev pub IsExponentMark : List ℕ → Type 0
-IsExponentMark mark =
-    (mark ≡ []) ⊎ ((letter : ℕ) × (is_exponent_letter letter ≡ true)
-    × ((mark ≡ letter ∷ []) ⊎ ((sign : ℕ) × (is_exponent_sign sign ≡ true) × (mark ≡ letter ∷ sign ∷ []))))
-
--- What begins like a numeral and looks like one: digits, dots and underscores, then perhaps an exponent's letter
--- and sign, then letters, digits and underscores.
-abbrev pub IsNumeralWord : List ℕ → Type 0
-IsNumeralWord bytes =
-    (digits mark rest : List ℕ) × (bytes ≡ digits ++ (mark ++ rest)) × (begins_numeral bytes ≡ true)
-    × (list_all is_numeral_byte digits ≡ true) × IsExponentMark mark × (list_all is_name_byte rest ≡ true)
+use Rattle.luau_lex.specs.Bytes.{minus, brace}
+use Rattle.luau_lex.specs.Forms.{HasForm, NoneOpens}
+use Rattle.luau_lex.specs.Numerals.{IsNumeralWord}
+use Rattle.luau_lex.specs.Token.{Tok}
 
 -- no longer front of the text than of n bytes is a token that may stand there
 abbrev pub NoLongerToken : List Open → List ℕ → ℕ → Type 0

@@ -1,9 +1,8 @@
 -- Names, and the names that are reserved as words.
-use Rattle.std.specs.Prelude.{ℕ, Bool, List, [], ◌∷◌, codes, if◌then◌else◌}
-use Rattle.std.specs.List.{list_any}
+use Rattle.std.specs.Prelude.{ℕ, Bool, List, [], ◌∷◌, codes, if◌then◌else◌, ◌≡◌, ◌+◌, ◌<◌, ◌≤◌, ◌-◌, true, false, ◌&&◌, slice_index}
+use Rattle.std.specs.List.{list_any, list_all}
 use Rattle.std.specs.Str.{bytes_eq}
-use Rattle.luau_lex.specs.declared.token.Kind.{Kind}
-use Rattle.luau_lex.specs.declared.token.Kind.TheVariants.{Name, Word}
+use Rattle.luau_lex.specs.Bytes.{is_name_start, is_name_byte}
 
 -- one of the words is these bytes
 abbrev pub is_listed : List ℕ → List (List ℕ) → Bool
@@ -16,6 +15,6 @@ reserved_words =
     ∷ codes "or" ∷ codes "repeat" ∷ codes "return" ∷ codes "then" ∷ codes "true" ∷ codes "until"
     ∷ codes "while" ∷ []
 
--- the kind of a name with these bytes
-unfoldable pub name_kind : List ℕ → Kind
-name_kind bytes = if is_listed bytes reserved_words then Word else Name
+-- a name, reserved or not: what a name begins with, and then what it goes on with
+abbrev pub is_name : List ℕ → Bool
+is_name bytes = is_name_start (slice_index bytes 0) && list_all is_name_byte bytes

@@ -1,69 +1,60 @@
--- Numerals: how far the word of one goes, and which words are numerals.
-use Rattle.std.specs.Prelude.{ℕ, Bool, true, ◌+◌, ◌&&◌, ◌||◌, ◌==◌, List, length, drop, slice_index, if◌then◌else◌}
-use Rattle.std.specs.List.{prefix_len, list_any}
+-- The forms of numerals, by cases on their bytes, and what looks like a numeral.
+use Rattle.std.specs.Prelude.{ℕ, Bool, true, ◌+◌, ◌&&◌, ◌||◌, ◌==◌, List, slice_index, if◌then◌else◌, ◌≡◌, ◌⊎◌, [], ◌∷◌, ◌++◌, ◌≢◌, ◌-◌, ◌<◌, ◌≤◌}
+use Rattle.std.specs.List.{list_any, list_all}
 use Rattle.std.specs.Char.{is_ascii_digit, is_ascii_hexdigit}
-use Rattle.luau_lex.specs.Bytes.{dot, is_digit_or_underscore, is_numeral_byte, is_name_byte, is_hex_or_underscore, is_binary_or_underscore}
+use Rattle.luau_lex.specs.Bytes.{dot, is_name_byte, is_digit_or_underscore, is_numeral_byte, is_hex_or_underscore, is_binary_or_underscore, is_exponent_letter, is_exponent_sign}
 
 -- a numeral begins with a digit, or with a dot and a digit
 abbrev pub begins_numeral : List ℕ → Bool
 begins_numeral text = is_ascii_digit (slice_index text 0) || ((slice_index text 0 == dot) && is_ascii_digit (slice_index text 1))
 
--- e or E
-abbrev pub is_exponent_letter : ℕ → Bool
-is_exponent_letter b = (b == 101) || (b == 69)
-
--- plus or minus
-abbrev pub is_exponent_sign : ℕ → Bool
-is_exponent_sign b = (b == 43) || (b == 45)
-
--- how many bytes an exponent's letter, and its sign if there is one, take
-unfoldable pub exponent_len : List ℕ → ℕ
-exponent_len text =
-    if is_exponent_letter (slice_index text 0)
-    then (if is_exponent_sign (slice_index text 1) then 2 else 1)
-    else 0
-
--- The word of a numeral: all digits, dots and underscores; then an exponent's letter and sign; then all
--- letters, digits and underscores.
-unfoldable pub numeral_len : List ℕ → ℕ
-numeral_len text =
-    let digits = prefix_len is_numeral_byte text in
-    let exponent = exponent_len (drop digits text) in
-    digits + exponent + prefix_len is_name_byte (drop (digits + exponent) text)
-
 -- a digit, and then digits and underscores
-unfoldable pub is_digits : List ℕ → Bool
-is_digits text = is_ascii_digit (slice_index text 0) && (prefix_len is_digit_or_underscore text == length text)
+abbrev pub IsDigits : List ℕ → Type 0
+IsDigits bytes =
+    (digit : ℕ) × (rest : List ℕ) × (bytes ≡ digit ∷ rest) × (is_ascii_digit digit ≡ true) × (list_all is_digit_or_underscore rest ≡ true)
 
 -- nothing, or an exponent: its letter, a sign or none, and digits
-unfoldable pub is_exponent_or_none : List ℕ → Bool
-is_exponent_or_none text =
-    if length text == 0 then true
-    else (is_exponent_letter (slice_index text 0) && is_digits (drop (exponent_len text) text))
+abbrev pub IsExponent : List ℕ → Type 0
+IsExponent bytes =
+    (bytes ≡ []) ⊎ ((letter : ℕ) × (digits : List ℕ) × (is_exponent_letter letter ≡ true) × IsDigits digits
+    × ((bytes ≡ letter ∷ digits) ⊎ ((sign : ℕ) × (is_exponent_sign sign ≡ true) × (bytes ≡ letter ∷ sign ∷ digits))))
 
--- what is left of a text after a dot at its front and the digits and underscores behind it
-unfoldable pub after_fraction : List ℕ → List ℕ
-after_fraction text =
-    if slice_index text 0 == dot
-    then drop (prefix_len is_digit_or_underscore (drop 1 text)) (drop 1 text)
-    else text
+-- Digits and perhaps a dot with digits and underscores or none behind it, or a dot and digits.
+abbrev pub IsMantissa : List ℕ → Type 0
+IsMantissa bytes =
+    IsDigits bytes
+    ⊎ (((whole : List ℕ) × (rest : List ℕ) × IsDigits whole × (list_all is_digit_or_underscore rest ≡ true) × (bytes ≡ whole ++ dot ∷ rest))
+    ⊎ ((digits : List ℕ) × IsDigits digits × (bytes ≡ dot ∷ digits)))
 
--- digits, a fraction and an exponent
-unfoldable pub is_decimal : List ℕ → Bool
-is_decimal word = is_exponent_or_none (after_fraction (drop (prefix_len is_digit_or_underscore word) word))
+-- a mantissa and perhaps an exponent
+abbrev pub IsDecimal : List ℕ → Type 0
+IsDecimal bytes = (mantissa : List ℕ) × (exponent : List ℕ) × (bytes ≡ mantissa ++ exponent) × IsMantissa mantissa × IsExponent exponent
 
--- one or more hexadecimal digits and underscores, at least one of them a digit
-unfoldable pub is_hex_part : List ℕ → Bool
-is_hex_part text = (prefix_len is_hex_or_underscore text == length text) && list_any is_ascii_hexdigit text
+-- 0x or 0X, and hexadecimal digits and underscores, at least one of them a digit
+abbrev pub IsHexadecimal : List ℕ → Type 0
+IsHexadecimal bytes =
+    (letter : ℕ) × (digits : List ℕ) × (bytes ≡ 48 ∷ letter ∷ digits) × ((letter ≡ 120) ⊎ (letter ≡ 88))
+    × (list_all is_hex_or_underscore digits ≡ true) × (list_any is_ascii_hexdigit digits ≡ true)
 
--- one or more of 0, 1 and underscores, at least one of them a digit
-unfoldable pub is_binary_part : List ℕ → Bool
-is_binary_part text = (prefix_len is_binary_or_underscore text == length text) && list_any is_ascii_digit text
+-- 0b or 0B, and 0, 1 and underscores, at least one of them a digit
+abbrev pub IsBinary : List ℕ → Type 0
+IsBinary bytes =
+    (letter : ℕ) × (digits : List ℕ) × (bytes ≡ 48 ∷ letter ∷ digits) × ((letter ≡ 98) ⊎ (letter ≡ 66))
+    × (list_all is_binary_or_underscore digits ≡ true) × (list_any is_ascii_digit digits ≡ true)
 
--- the word of a numeral is a numeral
-unfoldable pub is_numeral : List ℕ → Bool
-is_numeral word =
-    let second = slice_index word 1 in
-    if (slice_index word 0 == 48) && ((second == 120) || (second == 88)) then is_hex_part (drop 2 word)
-    else (if (slice_index word 0 == 48) && ((second == 98) || (second == 66)) then is_binary_part (drop 2 word)
-    else is_decimal word)
+-- the bytes are a numeral
+abbrev pub IsNumeral : List ℕ → Type 0
+IsNumeral bytes = IsDecimal bytes ⊎ (IsHexadecimal bytes ⊎ IsBinary bytes)
+
+-- an exponent's letter and perhaps its sign, or nothing
+abbrev pub IsExponentMark : List ℕ → Type 0
+IsExponentMark mark =
+    (mark ≡ []) ⊎ ((letter : ℕ) × (is_exponent_letter letter ≡ true)
+    × ((mark ≡ letter ∷ []) ⊎ ((sign : ℕ) × (is_exponent_sign sign ≡ true) × (mark ≡ letter ∷ sign ∷ []))))
+
+-- What begins like a numeral and looks like one: digits, dots and underscores, then perhaps an exponent's letter
+-- and sign, then letters, digits and underscores.
+abbrev pub IsNumeralWord : List ℕ → Type 0
+IsNumeralWord bytes =
+    (digits mark rest : List ℕ) × (bytes ≡ digits ++ (mark ++ rest)) × (begins_numeral bytes ≡ true)
+    × (list_all is_numeral_byte digits ≡ true) × IsExponentMark mark × (list_all is_name_byte rest ≡ true)

@@ -3,7 +3,7 @@ use Rattle.std.specs.Prelude.{◌≡◌, ◌≢◌, ℕ, ◌<◌, ◌≤◌, Boo
 use Rattle.std.specs.List.{list_all}
 use Rattle.std.specs.Char.{is_ascii_digit, is_ascii_hexdigit}
 use Rattle.luau_lex.specs.Bytes.{line_feed, carriage_return, backslash, backquote, brace, closing_brace, is_blank}
-use Rattle.luau_lex.specs.Strings.{number_in, utf8_scheme}
+use Rattle.luau_lex.specs.Numbers.{number_in, utf8_scheme}
 
 abbrev pub letter_u : ℕ
 letter_u = 117

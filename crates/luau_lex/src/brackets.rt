@@ -1,15 +1,15 @@
 ghost use Rattle.std.specs.Prelude.{◌≡◌, ◌≤◌, ◌+◌, length, IfSome};
 ghost use Rattle.std.specs.Bool.{OnTrue};
-ghost use Rattle.luau_lex.specs.Pieces.{long_piece};
-ghost use Rattle.luau_lex.specs.Tokens.{IsWithin};
-ghost use Rattle.luau_lex.specs.Brackets.{level, closes, closing_place};
+ghost use Rattle.luau_lex.specs.Computed.Pieces.{long_piece};
+ghost use Rattle.luau_lex.specs.Computed.Tokens.{IsWithin};
+ghost use Rattle.luau_lex.specs.Computed.Brackets.{level, closes, closing_place};
 
 use crate::bytes::{Class, byte_at, run_len};
 use crate::piece::Piece;
 use crate::token::{Kind, LexError};
 
 /// The level of the long bracket that opens at the front.
-#[tactic(auto, unfolding(crate::specs::Brackets::level))]
+#[tactic(auto, unfolding(crate::specs::Computed::Brackets::level))]
 pub fn level(text: &[u8]) -> Option<usize>
     ensures value { result ≡ level text.now }
     ensures within { IfSome result (λ signs. signs + 2 ≤ length text.now) }
@@ -26,7 +26,7 @@ pub fn level(text: &[u8]) -> Option<usize>
 }
 
 /// Whether a long bracket of this level closes at the front.
-#[tactic(auto, unfolding(crate::specs::Brackets::closes))]
+#[tactic(auto, unfolding(crate::specs::Computed::Brackets::closes))]
 fn closes(signs: usize, text: &[u8]) -> bool
     ensures value { result ≡ closes signs text.now }
     ensures within { OnTrue result (signs + 2 ≤ length text.now) }
@@ -50,7 +50,7 @@ pub fn closing_place(signs: usize, text: &[u8]) -> Option<usize>
 }
 
 /// The string in long brackets of this level at the front.
-#[tactic(auto, unfolding(crate::specs::Pieces::long_piece, crate::specs::Pieces::long_of))]
+#[tactic(auto, unfolding(crate::specs::Computed::Pieces::long_piece, crate::specs::Computed::Pieces::long_of))]
 pub fn long_piece(signs: usize, at: u32, text: &[u8]) -> Piece
     requires { signs + 2 ≤ length text.now }
     ensures value { result ≡ long_piece signs at text.now }

@@ -1,7 +1,7 @@
 ghost use Rattle.std.specs.Prelude.{◌≡◌, ◌<◌, ◌≤◌, length, slice_index};
 ghost use Rattle.std.specs.List.{prefix_len};
 ghost use Rattle.luau_lex.specs.Bytes.{is_blank, is_name_start};
-ghost use Rattle.luau_lex.specs.Steps.{has};
+ghost use Rattle.luau_lex.specs.Computed.Steps.{has};
 
 /// A class of bytes that stand together in a token.
 #[derive(Clone, Copy, Debug, PartialEq, Eq)]

@@ -1,7 +1,8 @@
 ghost use Rattle.std.specs.Prelude.{◌≡◌, ◌≤◌, ◌<◌, ◌+◌, length, IsTrue, MatchOption, true, is_none};
 ghost use Rattle.std.specs.Char.{is_ascii_hexdigit};
-ghost use Rattle.luau_lex.specs.Strings.{digit_number, number_in, byte_escape, decimal_escape, code_escape, letter_escape, escape, element};
-ghost use Rattle.luau_lex.specs.Steps.{seen, stands_value, IsWritable};
+ghost use Rattle.luau_lex.specs.Numbers.{digit_number, number_in};
+ghost use Rattle.luau_lex.specs.Computed.Strings.{byte_escape, decimal_escape, code_escape, letter_escape, escape, element};
+ghost use Rattle.luau_lex.specs.Computed.Steps.{seen, stands_value, IsWritable};
 
 use crate::bytes::{Class, byte_at, run_len};
 
@@ -36,7 +37,7 @@ pub struct Parsed {
 /// The greatest number of a `\u` escape.
 const MAX_CODE: u32 = 0x10_FFFF;
 
-#[tactic(auto, unfolding(crate::specs::Strings::digit_number))]
+#[tactic(auto, unfolding(crate::specs::Numbers::digit_number))]
 fn digit_number(b: u8) -> u8
     ensures value { result ≡ digit_number b }
     ensures small { is_ascii_hexdigit b ≡ true → result < 16 }
@@ -68,7 +69,7 @@ fn number_in(base: u32, digits: &[u8]) -> Option<u32>
 }
 
 /// `\x` and two hexadecimal digits. The text is what follows the `x`.
-#[tactic(auto, unfolding(crate::specs::Strings::byte_escape))]
+#[tactic(auto, unfolding(crate::specs::Computed::Strings::byte_escape))]
 fn byte_escape(text: &[u8]) -> Parsed
     ensures value { seen result ≡ byte_escape text.now }
     ensures within { result.len ≤ 2 + length text.now }
@@ -91,7 +92,7 @@ fn byte_escape(text: &[u8]) -> Parsed
 }
 
 /// A backslash and up to three decimal digits. The text begins with the digits.
-#[tactic(auto, unfolding(crate::specs::Strings::decimal_escape))]
+#[tactic(auto, unfolding(crate::specs::Computed::Strings::decimal_escape))]
 fn decimal_escape(text: &[u8]) -> Parsed
     ensures value { seen result ≡ decimal_escape text.now }
     ensures within { result.len ≤ 1 + length text.now }
@@ -110,7 +111,7 @@ fn decimal_escape(text: &[u8]) -> Parsed
 }
 
 /// `\u{H}`. The text is what follows the `u`.
-#[tactic(auto, unfolding(crate::specs::Strings::code_escape))]
+#[tactic(auto, unfolding(crate::specs::Computed::Strings::code_escape))]
 fn code_escape(text: &[u8]) -> Parsed
     ensures value { seen result ≡ code_escape text.now }
     ensures within { result.len ≤ 2 + length text.now }
@@ -138,7 +139,7 @@ fn code_escape(text: &[u8]) -> Parsed
     }
 }
 
-#[tactic(auto, unfolding(crate::specs::Strings::letter_escape))]
+#[tactic(auto, unfolding(crate::specs::Computed::Strings::letter_escape))]
 fn letter_escape(b: u8) -> u8
     ensures { result ≡ letter_escape b }
 {
@@ -155,7 +156,7 @@ fn letter_escape(b: u8) -> u8
 }
 
 /// An escape. The text is what follows the backslash.
-#[tactic(auto, unfolding(crate::specs::Strings::escape))]
+#[tactic(auto, unfolding(crate::specs::Computed::Strings::escape))]
 fn escape(text: &[u8]) -> Parsed
     ensures value { seen result ≡ escape text.now }
     ensures within { result.len ≤ 1 + length text.now }
@@ -193,7 +194,7 @@ fn escape(text: &[u8]) -> Parsed
 }
 
 /// The byte or escape at the front of a text inside of a string.
-#[tactic(auto, unfolding(crate::specs::Strings::element))]
+#[tactic(auto, unfolding(crate::specs::Computed::Strings::element))]
 pub fn element(text: &[u8]) -> Parsed
     requires { 0 < length text.now }
     ensures value { seen result ≡ element text.now }

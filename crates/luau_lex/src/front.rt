@@ -1,7 +1,7 @@
 ghost use Rattle.std.specs.Prelude.{◌≡◌, ◌≤◌, ◌<◌, ◌+◌, length};
-ghost use Rattle.luau_lex.specs.Pieces.{piece, other_piece, closing_piece, part_open, innermost, bracket_or_sign};
-ghost use Rattle.luau_lex.specs.Brackets.{level};
-ghost use Rattle.luau_lex.specs.Tokens.{IsWithin};
+ghost use Rattle.luau_lex.specs.Computed.Pieces.{piece, other_piece, closing_piece, part_open, innermost, bracket_or_sign};
+ghost use Rattle.luau_lex.specs.Computed.Brackets.{level};
+ghost use Rattle.luau_lex.specs.Computed.Tokens.{IsWithin};
 
 use crate::brackets::{level, long_piece};
 use crate::bytes::{Class, byte_at, is_blank, is_name_start, run_len};
@@ -17,7 +17,7 @@ use luau_tree::MAX_TEXT;
 
 /// What stands at the closing brace at the front, where the interpolated string that goes on there, if one
 /// does, began at `start`.
-#[tactic(auto, unfolding(crate::specs::Pieces::closing_piece))]
+#[tactic(auto, unfolding(crate::specs::Computed::Pieces::closing_piece))]
 fn closing_piece(start: Option<u32>, at: u32, text: &[u8]) -> Piece
     requires some { 0 < length text.now }
     requires small { at + length text.now ≤ MAX_TEXT }
@@ -41,7 +41,7 @@ fn part_open(brace: Option<Open>) -> Option<u32>
     }
 }
 
-#[tactic(auto, unfolding(crate::specs::Pieces::bracket_or_sign))]
+#[tactic(auto, unfolding(crate::specs::Computed::Pieces::bracket_or_sign))]
 fn bracket_or_sign(at: u32, text: &[u8]) -> Piece
     requires some { 0 < length text.now }
     requires small { at + length text.now ≤ MAX_TEXT }
@@ -54,7 +54,7 @@ fn bracket_or_sign(at: u32, text: &[u8]) -> Piece
     }
 }
 
-#[tactic(auto, unfolding(crate::specs::Pieces::other_piece))]
+#[tactic(auto, unfolding(crate::specs::Computed::Pieces::other_piece))]
 fn other_piece(brace: Option<Open>, at: u32, text: &[u8]) -> Piece
     requires some { 0 < length text.now }
     requires small { at + length text.now ≤ MAX_TEXT }
@@ -75,7 +75,7 @@ fn other_piece(brace: Option<Open>, at: u32, text: &[u8]) -> Piece
 
 /// What stands at the front of a text that isn't empty, at this offset, where `brace` is the innermost open
 /// brace.
-#[tactic(auto, unfolding(crate::specs::Pieces::piece))]
+#[tactic(auto, unfolding(crate::specs::Computed::Pieces::piece))]
 pub fn piece(brace: Option<Open>, at: u32, text: &[u8]) -> Piece
     requires some { 0 < length text.now }
     requires small { at + length text.now ≤ MAX_TEXT }

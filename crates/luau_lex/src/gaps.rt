@@ -1,7 +1,7 @@
 ghost use Rattle.std.specs.Prelude.{◌≡◌, ◌≤◌, ◌+◌, length, drop};
-ghost use Rattle.luau_lex.specs.Pieces.{comment_piece, long_comment_of};
-ghost use Rattle.luau_lex.specs.Brackets.{closing_place};
-ghost use Rattle.luau_lex.specs.Tokens.{IsWithin};
+ghost use Rattle.luau_lex.specs.Computed.Pieces.{comment_piece, long_comment_of};
+ghost use Rattle.luau_lex.specs.Computed.Brackets.{closing_place};
+ghost use Rattle.luau_lex.specs.Computed.Tokens.{IsWithin};
 
 use crate::brackets::{closing_place, level};
 use crate::bytes::{Class, run_len};
@@ -9,7 +9,7 @@ use crate::piece::Piece;
 use crate::token::LexError;
 
 /// The comment in long brackets of this level at the front.
-#[tactic(auto, unfolding(crate::specs::Pieces::long_comment_of))]
+#[tactic(auto, unfolding(crate::specs::Computed::Pieces::long_comment_of))]
 fn long_comment(signs: usize, at: u32, text: &[u8]) -> Piece
     requires { signs + 4 ≤ length text.now }
     ensures value { result ≡ long_comment_of at (closing_place signs (drop (signs + 4) text.now)) signs }
@@ -22,7 +22,7 @@ fn long_comment(signs: usize, at: u32, text: &[u8]) -> Piece
 }
 
 /// The comment at the front.
-#[tactic(auto, unfolding(crate::specs::Pieces::comment_piece, crate::specs::Pieces::comment_of))]
+#[tactic(auto, unfolding(crate::specs::Computed::Pieces::comment_piece, crate::specs::Computed::Pieces::comment_of))]
 pub fn comment_piece(at: u32, text: &[u8]) -> Piece
     requires { 2 ≤ length text.now }
     ensures value { result ≡ comment_piece at text.now }

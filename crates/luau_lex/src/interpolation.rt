@@ -1,6 +1,6 @@
 ghost use Rattle.std.specs.Prelude.{◌≡◌, ◌≤◌, ◌<◌, ◌+◌, length, slice_index};
-ghost use Rattle.luau_lex.specs.Pieces.{part_piece};
-ghost use Rattle.luau_lex.specs.Tokens.{IsWithin};
+ghost use Rattle.luau_lex.specs.Computed.Pieces.{part_piece};
+ghost use Rattle.luau_lex.specs.Computed.Tokens.{IsWithin};
 
 use crate::bytes::byte_at;
 use crate::piece::Piece;
@@ -10,7 +10,7 @@ use luau_tree::MAX_TEXT;
 
 /// The part of an interpolated string behind the backquote or brace at the front: `last` where a backquote
 /// ends it, `further` where a brace does. The string began at `start`.
-#[tactic(auto, unfolding(crate::specs::Pieces::part_piece))]
+#[tactic(auto, unfolding(crate::specs::Computed::Pieces::part_piece))]
 pub fn part_piece(last: Kind, further: Kind, start: u32, at: u32, text: &[u8]) -> Piece
     requires some { 0 < length text.now }
     requires small { at + length text.now ≤ MAX_TEXT }

@@ -1,123 +1,50 @@
-//! What follows from the token grammar: laws of the definitions alone, for every text.
-ghost use Rattle.std.specs.Prelude.{◌≡◌, ◌≢◌, ℕ, ◌+◌, ◌*◌, ◌<◌, ◌≤◌, ◌&&◌, true, false, List, [], ◌∷◌, ◌++◌, Result, Ok, Err, Some, take, drop, length, slice_index, map, flat_map, codes, encode_utf8};
+//! What follows from the laws of tokens, and from the forms, for every text.
+ghost use Rattle.std.specs.Prelude.{◌≡◌, ◌≢◌, ℕ, ◌+◌, ◌*◌, ◌<◌, ◌≤◌, ◌&&◌, true, false, List, [], ◌∷◌, ◌++◌, All, Ok, Err, Option, None, Some, take, drop, length, slice_index, map, flat_map, codes, encode_utf8};
 ghost use Rattle.std.specs.List.{prefix_len};
 ghost use Rattle.luau_lex.specs.declared.token.Kind.{Kind};
 ghost use Rattle.luau_lex.specs.declared.token.Kind.TheVariants.{Quoted, Long, Whole};
 ghost use Rattle.luau_lex.specs.declared.token.LexError.{LexError};
-ghost use Rattle.luau_lex.specs.Bytes.{line_feed, carriage_return, is_blank, is_name_start, is_name_byte};
-ghost use Rattle.luau_lex.specs.Brackets.{closes, closing_place};
-ghost use Rattle.luau_lex.specs.Numerals.{begins_numeral, is_numeral};
-ghost use Rattle.luau_lex.specs.NumeralForms.{IsNumeral};
-ghost use Rattle.luau_lex.specs.Signs.{sign_len, is_sign};
-ghost use Rattle.luau_lex.specs.Strings.{digit_number, number_in, utf8_scheme};
+ghost use Rattle.luau_lex.specs.Bytes.{line_feed, carriage_return};
+ghost use Rattle.luau_lex.specs.Token.{Tok};
+ghost use Rattle.luau_lex.specs.Numerals.{IsNumeral};
+ghost use Rattle.luau_lex.specs.Numbers.{digit_number, number_in, utf8_scheme};
 ghost use Rattle.luau_lex.specs.Spellings.{Spelling, written, AreSpellings, stand_for};
-ghost use Rattle.luau_lex.specs.Tokens.{Tok, tokens_of, first_line_len};
-ghost use Rattle.luau_lex.specs.Forms.{HasForm, HaveForms, IsLineComment, IsLongComment, StandApart, in_brackets};
-ghost use Rattle.luau_lex.specs.Braces.{MatchBraces};
-ghost use Rattle.luau_lex.specs.LongestTokens.{AreLongest, StandClear};
-ghost use Rattle.luau_lex.specs.Faults.{StopsAt};
-ghost use Rattle.luau_lex.specs.Grammar.{HasTokens, StandInOrder, Longest, is_blanks, is_name};
-ghost use Rattle.luau_lex.specs.Values.{with_line_feeds, string_value};
+ghost use Rattle.luau_lex.specs.Forms.{HasForm, IsLineComment, IsLongComment, in_brackets};
+ghost use Rattle.luau_lex.specs.Lexed.{Lexed};
+ghost use Rattle.luau_lex.specs.LineEnds.{with_line_feeds};
+ghost use Rattle.luau_lex.specs.Computed.Tokens.{tokens_of};
+ghost use Rattle.luau_lex.specs.Computed.Values.{string_value};
 
-/// A text has one list of tokens, or one first fault, and not both.
-pub fn tokens_unique()
-    ensures { (text : List ℕ) (r s : Result (List Tok) LexError) →
-        HasTokens text r → HasTokens text s → r ≡ s }
+/// Each text has tokens, up to its end or up to its first fault, and not both; it has one list of tokens, or one
+/// first fault.
+pub fn each_text_is_lexed_in_one_way()
+    ensures some { (text : List ℕ) → (ts : List Tok) × (fault : Option LexError) × Lexed text ts fault }
+    ensures tokens { (text : List ℕ) (ts us : List Tok) → Lexed text ts None → Lexed text us None → ts ≡ us }
+    ensures fault { (text : List ℕ) (ts us : List Tok) (d e : LexError) →
+        Lexed text ts (Some d) → Lexed text us (Some e) → d ≡ e }
+    ensures not_both { (text : List ℕ) (ts us : List Tok) (e : LexError) →
+        Lexed text ts None → Lexed text us (Some e) → ⊥ }
 {}
 
-/// Each text has what `tokens_of` computes: its tokens, or its first fault.
-pub fn tokens_exist()
-    ensures { (text : List ℕ) → HasTokens text (tokens_of text) }
-{}
-
-/// What a text has is what `tokens_of` computes.
-pub fn tokens_compute()
-    ensures { (text : List ℕ) (r : Result (List Tok) LexError) → HasTokens text r → tokens_of text ≡ r }
-{}
-
-/// The tokens of a text stand in order in it, each with the bytes at its place.
-pub fn tokens_in_order()
-    ensures { (text : List ℕ) (ts : List Tok) → HasTokens text (Ok ts) → StandInOrder 0 text ts }
-{}
-
-/// No token of a text could be longer at its place.
-pub fn tokens_are_longest()
-    ensures { (text : List ℕ) (ts : List Tok) → HasTokens text (Ok ts) →
-        AreLongest [] (first_line_len text) (drop (first_line_len text) text) ts }
-{}
-
-/// A closing brace goes on with an interpolated string exactly where the innermost open brace is one's.
-pub fn braces_match()
-    ensures { (text : List ℕ) (ts : List Tok) → HasTokens text (Ok ts) → MatchBraces [] ts }
-{}
-
-/// No sign stands where a long bracket opens, and no brace behind the one that leaves an interpolated string.
-pub fn tokens_stand_clear()
-    ensures { (text : List ℕ) (ts : List Tok) → HasTokens text (Ok ts) →
-        StandClear (first_line_len text) (drop (first_line_len text) text) ts }
-{}
-
-/// The laws determine the tokens: what meets them is what the text has.
+/// The laws determine the tokens: what meets them is what `tokens_of` computes, and the other way.
 pub fn laws_determine_tokens()
-    ensures { (text : List ℕ) (ts : List Tok) →
-        StandInOrder (first_line_len text) (drop (first_line_len text) text) ts →
-        HaveForms ts →
-        StandApart (first_line_len text) (drop (first_line_len text) text) ts →
-        MatchBraces [] ts →
-        AreLongest [] (first_line_len text) (drop (first_line_len text) text) ts →
-        StandClear (first_line_len text) (drop (first_line_len text) text) ts →
-        HasTokens text (Ok ts) }
+    ensures only { (text : List ℕ) (ts : List Tok) → Lexed text ts None → tokens_of text ≡ Ok ts }
+    ensures all { (text : List ℕ) (ts : List Tok) → tokens_of text ≡ Ok ts → Lexed text ts None }
 {}
 
-/// Where a text has a fault, its tokens stand before it, and there stands what the fault names.
-pub fn faults_stand_where_they_are_told()
-    ensures { (text : List ℕ) (e : LexError) → HasTokens text (Err e) →
-        (ts : List Tok) × StopsAt [] (first_line_len text) (drop (first_line_len text) text) ts e }
+/// The laws determine the fault: what meets them is what `tokens_of` computes, and the other way.
+pub fn laws_determine_faults()
+    ensures only { (text : List ℕ) (ts : List Tok) (e : LexError) → Lexed text ts (Some e) → tokens_of text ≡ Err e }
+    ensures all { (text : List ℕ) (e : LexError) → tokens_of text ≡ Err e → (ts : List Tok) × Lexed text ts (Some e) }
 {}
 
-/// A word is a numeral exactly where it is of the form of one.
+/// Some words that are numerals, and some that look like one and are none.
 pub fn numerals_are_of_their_forms()
-    ensures only { (word : List ℕ) → begins_numeral word ≡ true → is_numeral word ≡ true → IsNumeral word }
-    ensures all { (word : List ℕ) → IsNumeral word → (begins_numeral word ≡ true) × (is_numeral word ≡ true) }
-{}
-
-/// A name goes as far as it can.
-pub fn names_are_longest()
-    ensures { (text : List ℕ) → is_name_start (slice_index text 0) ≡ true →
-        Longest is_name text (prefix_len is_name_byte text) }
-{}
-
-/// Blanks go as far as they can.
-pub fn blanks_are_longest()
-    ensures { (text : List ℕ) → is_blank (slice_index text 0) ≡ true →
-        Longest is_blanks text (prefix_len is_blank text) }
-{}
-
-/// A long bracket closes at the first place where one of its level closes.
-pub fn brackets_close_first()
-    ensures closes { (signs place : ℕ) (text : List ℕ) → closing_place signs text ≡ Some place →
-        closes signs (drop place text) ≡ true }
-    ensures not_before { (signs place k : ℕ) (text : List ℕ) → closing_place signs text ≡ Some place →
-        k < place → closes signs (drop k text) ≡ false }
-{}
-
-/// A sign is as long as it can be, and where none is read, none of the table stands.
-pub fn signs_are_longest()
-    ensures longest { (text : List ℕ) → 0 < sign_len text → Longest is_sign text (sign_len text) }
-    ensures none { (text : List ℕ) (m : ℕ) → sign_len text ≡ 0 → 0 < m → m ≤ length text →
-        is_sign (take m text) ≡ false }
-{}
-
-/// Each token of a text has the form of its kind.
-pub fn tokens_have_their_forms()
-    ensures { (text : List ℕ) (ts : List Tok) → HasTokens text (Ok ts) → HaveForms ts }
-{}
-
-/// Blanks and comments alone stand before each token, and behind the last. A first line that begins with `#!`
-/// is left out.
-pub fn gaps_are_blanks_and_comments()
-    ensures { (text : List ℕ) (ts : List Tok) → HasTokens text (Ok ts) →
-        StandApart (first_line_len text) (drop (first_line_len text) text) ts }
+    ensures decimal { All IsNumeral (codes "1_.e5" ∷ codes ".5_E-3" ∷ codes "1._" ∷ codes "007" ∷ []) }
+    ensures hexadecimal { All IsNumeral (codes "0X_f" ∷ codes "0x1e5" ∷ []) }
+    ensures binary { All IsNumeral (codes "0b_01" ∷ []) }
+    ensures none { All (λ word. IsNumeral word → ⊥)
+        (codes "1e_5" ∷ codes "1..2" ∷ codes "0x_" ∷ codes "0b2" ∷ codes "1a" ∷ codes "._5" ∷ []) }
 {}
 
 /// What goes on behind its end is of no form, and a long bracket opens no comment to the end of its line.

@@ -1,8 +1,8 @@
 ghost use Rattle.std.specs.Prelude.{◌≡◌, true, slice_index, length};
 ghost use Rattle.luau_lex.specs.Bytes.{is_name_byte};
-ghost use Rattle.luau_lex.specs.Pieces.{name_piece};
-ghost use Rattle.luau_lex.specs.Tokens.{IsWithin};
-ghost use Rattle.luau_lex.specs.Names.{name_kind, is_listed, reserved_words};
+ghost use Rattle.luau_lex.specs.Computed.Pieces.{name_piece, name_kind};
+ghost use Rattle.luau_lex.specs.Computed.Tokens.{IsWithin};
+ghost use Rattle.luau_lex.specs.Names.{is_listed, reserved_words};
 
 use crate::bytes::{Class, run_len};
 use crate::piece::Piece;
@@ -35,7 +35,7 @@ fn is_reserved(name: &[u8]) -> bool
 }
 
 /// A reserved word, or a name.
-#[tactic(auto, unfolding(crate::specs::Names::name_kind))]
+#[tactic(auto, unfolding(crate::specs::Computed::Pieces::name_kind))]
 pub fn name_kind(name: &[u8]) -> Kind
     ensures { result ≡ name_kind name.now }
 {
@@ -47,7 +47,7 @@ pub fn name_kind(name: &[u8]) -> Kind
 }
 
 /// The name or word at the front.
-#[tactic(auto, unfolding(crate::specs::Pieces::name_piece))]
+#[tactic(auto, unfolding(crate::specs::Computed::Pieces::name_piece))]
 pub fn name_piece(text: &[u8]) -> Piece
     requires { is_name_byte (slice_index text.now 0) ≡ true }
     ensures value { result ≡ name_piece text.now }

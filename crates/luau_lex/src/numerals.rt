@@ -1,10 +1,11 @@
 ghost use Rattle.std.specs.Prelude.{◌≡◌, ◌≤◌, ◌<◌, length, IsTrue, true, drop, slice_index};
 ghost use Rattle.std.specs.List.{list_any};
 ghost use Rattle.std.specs.Char.{is_ascii_digit, is_ascii_hexdigit};
-ghost use Rattle.luau_lex.specs.Bytes.{is_numeral_byte};
-ghost use Rattle.luau_lex.specs.Pieces.{numeral_piece};
-ghost use Rattle.luau_lex.specs.Tokens.{IsWithin};
-ghost use Rattle.luau_lex.specs.Numerals.{begins_numeral, numeral_len, exponent_len, is_exponent_letter, is_exponent_sign, is_digits, is_exponent_or_none, after_fraction, is_decimal, is_hex_part, is_binary_part, is_numeral};
+ghost use Rattle.luau_lex.specs.Bytes.{is_numeral_byte, is_exponent_letter, is_exponent_sign};
+ghost use Rattle.luau_lex.specs.Computed.Pieces.{numeral_piece};
+ghost use Rattle.luau_lex.specs.Computed.Tokens.{IsWithin};
+ghost use Rattle.luau_lex.specs.Numerals.{begins_numeral};
+ghost use Rattle.luau_lex.specs.Computed.Numerals.{numeral_len, exponent_len, is_digits, is_exponent_or_none, after_fraction, is_decimal, is_hex_part, is_binary_part, is_numeral};
 
 use crate::bytes::{Class, byte_at, run_len};
 use crate::piece::Piece;
@@ -31,7 +32,7 @@ fn is_exponent_sign(b: u8) -> bool
     b == b'+' || b == b'-'
 }
 
-#[tactic(auto, unfolding(crate::specs::Numerals::exponent_len))]
+#[tactic(auto, unfolding(crate::specs::Computed::Numerals::exponent_len))]
 fn exponent_len(text: &[u8]) -> usize
     ensures value { result ≡ exponent_len text.now }
     ensures within { result ≤ length text.now }
@@ -46,7 +47,7 @@ fn exponent_len(text: &[u8]) -> usize
 }
 
 /// How many bytes the word of the numeral at the front takes.
-#[tactic(auto, unfolding(crate::specs::Numerals::numeral_len))]
+#[tactic(auto, unfolding(crate::specs::Computed::Numerals::numeral_len))]
 pub fn numeral_len(text: &[u8]) -> usize
     ensures some { is_numeral_byte (slice_index text.now 0) ≡ true → 1 ≤ result }
     ensures value { result ≡ numeral_len text.now }
@@ -58,14 +59,14 @@ pub fn numeral_len(text: &[u8]) -> usize
     word + run_len(&text[word..], Class::NameByte)
 }
 
-#[tactic(auto, unfolding(crate::specs::Numerals::is_digits))]
+#[tactic(auto, unfolding(crate::specs::Computed::Numerals::is_digits))]
 fn is_digits(text: &[u8]) -> bool
     ensures { result ≡ is_digits text.now }
 {
     byte_at(text, 0).is_ascii_digit() && run_len(text, Class::DigitOrUnderscore) == text.len()
 }
 
-#[tactic(auto, unfolding(crate::specs::Numerals::is_exponent_or_none))]
+#[tactic(auto, unfolding(crate::specs::Computed::Numerals::is_exponent_or_none))]
 fn is_exponent_or_none(text: &[u8]) -> bool
     ensures { result ≡ is_exponent_or_none text.now }
 {
@@ -76,7 +77,7 @@ fn is_exponent_or_none(text: &[u8]) -> bool
     }
 }
 
-#[tactic(auto, unfolding(crate::specs::Numerals::after_fraction))]
+#[tactic(auto, unfolding(crate::specs::Computed::Numerals::after_fraction))]
 fn after_fraction(text: &[u8]) -> &[u8]
     ensures { result.now ≡ after_fraction text.now }
 {
@@ -88,7 +89,7 @@ fn after_fraction(text: &[u8]) -> &[u8]
     }
 }
 
-#[tactic(auto, unfolding(crate::specs::Numerals::is_decimal))]
+#[tactic(auto, unfolding(crate::specs::Computed::Numerals::is_decimal))]
 fn is_decimal(word: &[u8]) -> bool
     ensures { result ≡ is_decimal word.now }
 {
@@ -107,14 +108,14 @@ fn has_digit(text: &[u8]) -> bool
     text.iter().any(|b| b.is_ascii_digit())
 }
 
-#[tactic(auto, unfolding(crate::specs::Numerals::is_hex_part))]
+#[tactic(auto, unfolding(crate::specs::Computed::Numerals::is_hex_part))]
 fn is_hex_part(text: &[u8]) -> bool
     ensures { result ≡ is_hex_part text.now }
 {
     run_len(text, Class::HexOrUnderscore) == text.len() && has_hex_digit(text)
 }
 
-#[tactic(auto, unfolding(crate::specs::Numerals::is_binary_part))]
+#[tactic(auto, unfolding(crate::specs::Computed::Numerals::is_binary_part))]
 fn is_binary_part(text: &[u8]) -> bool
     ensures { result ≡ is_binary_part text.now }
 {
@@ -122,7 +123,7 @@ fn is_binary_part(text: &[u8]) -> bool
 }
 
 /// Whether the word of a numeral is a numeral.
-#[tactic(auto, unfolding(crate::specs::Numerals::is_numeral))]
+#[tactic(auto, unfolding(crate::specs::Computed::Numerals::is_numeral))]
 pub fn is_numeral(word: &[u8]) -> bool
     ensures { result ≡ is_numeral word.now }
 {
@@ -139,7 +140,7 @@ pub fn is_numeral(word: &[u8]) -> bool
 }
 
 /// The numeral at the front.
-#[tactic(auto, unfolding(crate::specs::Pieces::numeral_piece))]
+#[tactic(auto, unfolding(crate::specs::Computed::Pieces::numeral_piece))]
 pub fn numeral_piece(at: u32, text: &[u8]) -> Piece
     requires { is_numeral_byte (slice_index text.now 0) ≡ true }
     ensures value { result ≡ numeral_piece at text.now }

@@ -1,10 +1,12 @@
-ghost use Rattle.std.specs.Prelude.{◌≡◌, ◌≢◌, ◌≤◌, ◌<◌, ◌+◌, ◌++◌, ◌∷◌, [], length, take, drop, slice_index, All, AllPairs, IfOk, IfErr, OnOk, List, ℕ, map, Ok, Err, Some};
+ghost use Rattle.std.specs.Prelude.{◌≡◌, ◌≢◌, ◌≤◌, ◌<◌, ◌+◌, ◌++◌, ◌∷◌, [], length, take, drop, slice_index, All, AllPairs, IfOk, IfErr, OnOk, List, ℕ, map, Ok, Err, None, Some};
 ghost use Rattle.luau_lex.specs.declared.token.LexError.TheVariants.{NoMemory};
-ghost use Rattle.luau_lex.specs.Tokens.{Tok, seen_token, token_at, tokens_of, first_line_len};
-ghost use Rattle.luau_lex.specs.Pieces.{opens_behind, innermost};
-ghost use Rattle.luau_lex.specs.Steps.{IsSmall, HasRead};
-ghost use Rattle.luau_lex.specs.Grammar.{HasTokens};
-ghost use Rattle.luau_lex.specs.Places.{IsWithinText, fault_offset};
+ghost use Rattle.luau_lex.specs.Token.{Tok, seen_token};
+ghost use Rattle.luau_lex.specs.Computed.Tokens.{token_at, tokens_of};
+ghost use Rattle.luau_lex.specs.Lexed.{Lexed};
+ghost use Rattle.luau_lex.specs.Places.{first_line_len, IsWithinText, fault_offset};
+ghost use Rattle.luau_lex.specs.Computed.Pieces.{opens_behind, innermost};
+ghost use Rattle.luau_lex.specs.Computed.Steps.{IsSmall, HasRead};
+ghost use Rattle.luau_lex.specs.Computed.Reads.{HasTokens};
 
 use crate::bytes::{Class, byte_at, run_len};
 use crate::front::piece;
@@ -110,7 +112,7 @@ fn innermost(opens: &Vec<Open>) -> Option<Open>
 }
 
 /// Keeps the open braces, behind a token at this offset that begins with the byte `first`.
-#[tactic(auto, unfolding(crate::specs::Pieces::opens_behind))]
+#[tactic(auto, unfolding(crate::specs::Computed::Pieces::opens_behind))]
 fn follow(opens: &mut Vec<Open>, at: u32, kind: Kind, first: u8) -> Result<(), AllocError>
     ensures { OnOk result (opens.new.items ≡ opens_behind opens.old.items at kind first) }
 {
@@ -129,7 +131,7 @@ fn follow(opens: &mut Vec<Open>, at: u32, kind: Kind, first: u8) -> Result<(), A
 }
 
 /// The length of a first line that begins with `#!`, which is read as a comment.
-#[tactic(auto, unfolding(crate::specs::Tokens::first_line_len))]
+#[tactic(auto, unfolding(crate::specs::Places::first_line_len))]
 fn first_line_len(text: &[u8]) -> usize
     ensures value { result ≡ first_line_len text.now }
     ensures within { result ≤ length text.now }
@@ -147,16 +149,16 @@ fn first_line_len(text: &[u8]) -> usize
 /// Fails at the first fault of the text, which has no tokens then, or where memory runs out.
 pub fn lex<'s>(alloc: Global, text: &'s [u8]) -> Result<Vec<Token<'s>>, LexError>
     requires { length text.now ≤ MAX_TEXT }
-    // The text is cut into pieces, and these are the tokens among them.
-    ensures tokens { IfOk result (λ v. HasTokens text.now (Ok (map seen_token v.items))) }
-    // This is where the text can be cut no further.
-    ensures fault { IfErr result (λ e. e ≢ NoMemory → HasTokens text.now (Err e)) }
+    // The tokens meet the laws of a text's tokens, up to its end.
+    ensures tokens { IfOk result (λ v. Lexed text.now (map seen_token v.items) None) }
+    // Some tokens meet these laws up to the fault, and there the fault stands.
+    ensures fault { IfErr result (λ e. e ≢ NoMemory → (ts : List Tok) × Lexed text.now ts (Some e)) }
     // Each token has a byte at least and lies within the text, and ends before the next ones begin.
     ensures spans { IfOk result (λ v. All (λ t. IsWithinText (length text.now) t.span) v.items) }
     ensures order { IfOk result (λ v. AllPairs (λ s t. s.span.end ≤ t.span.start) v.items) }
     // The fault stands at a byte of the text.
     ensures fault_within { IfErr result (λ e. e ≢ NoMemory → fault_offset e < length text.now) }
-    // The same, computed.
+    // The same answers as a function.
     ensures computed { IfOk result (λ v. tokens_of text.now ≡ Ok (map seen_token v.items)) }
     ensures computed_fault { IfErr result (λ e. e ≢ NoMemory → tokens_of text.now ≡ Err e) }
 {

@@ -1,7 +1,7 @@
 ghost use Rattle.std.specs.Prelude.{◌≡◌, ◌≤◌, ◌<◌, length};
-ghost use Rattle.luau_lex.specs.Pieces.{sign_piece};
-ghost use Rattle.luau_lex.specs.Tokens.{IsWithin};
-ghost use Rattle.luau_lex.specs.Signs.{takes_equals, stands_alone, sign_len_of, sign_len};
+ghost use Rattle.luau_lex.specs.Computed.Pieces.{sign_piece};
+ghost use Rattle.luau_lex.specs.Computed.Tokens.{IsWithin};
+ghost use Rattle.luau_lex.specs.Computed.Signs.{takes_equals, stands_alone, sign_len_of, sign_len};
 
 use crate::bytes::byte_at;
 use crate::piece::Piece;
@@ -22,7 +22,7 @@ fn stands_alone(b: u8) -> bool
     )
 }
 
-#[tactic(auto, unfolding(crate::specs::Signs::sign_len_of))]
+#[tactic(auto, unfolding(crate::specs::Computed::Signs::sign_len_of))]
 fn sign_len_of(a: u8, b: u8, c: u8) -> usize
     ensures value { result ≡ sign_len_of a b c }
     ensures most { result ≤ 3 }
@@ -44,7 +44,7 @@ fn sign_len_of(a: u8, b: u8, c: u8) -> usize
 }
 
 /// The length of the longest sign at the front, or 0 where there is none.
-#[tactic(auto, unfolding(crate::specs::Signs::sign_len_of))]
+#[tactic(auto, unfolding(crate::specs::Computed::Signs::sign_len_of))]
 pub fn sign_len(text: &[u8]) -> usize
     ensures value { result ≡ sign_len text.now }
     ensures within { result ≤ length text.now }
@@ -53,7 +53,7 @@ pub fn sign_len(text: &[u8]) -> usize
 }
 
 /// The sign at the front.
-#[tactic(auto, unfolding(crate::specs::Pieces::sign_piece))]
+#[tactic(auto, unfolding(crate::specs::Computed::Pieces::sign_piece))]
 pub fn sign_piece(at: u32, text: &[u8]) -> Piece
     ensures value { result ≡ sign_piece at text.now }
     ensures within { IsWithin result (length text.now) }

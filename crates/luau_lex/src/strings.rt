@@ -1,7 +1,7 @@
 ghost use Rattle.std.specs.Prelude.{◌≡◌, ◌≤◌, ◌<◌, ◌+◌, ◌^◌, length, slice_index, IfSome, ℕ};
-ghost use Rattle.luau_lex.specs.Pieces.{quoted_piece, unless_malformed};
-ghost use Rattle.luau_lex.specs.Tokens.{IsWithin};
-ghost use Rattle.luau_lex.specs.Strings.{ends_inside, inside_len, malformed_at};
+ghost use Rattle.luau_lex.specs.Computed.Pieces.{quoted_piece, unless_malformed};
+ghost use Rattle.luau_lex.specs.Computed.Tokens.{IsWithin};
+ghost use Rattle.luau_lex.specs.Computed.Strings.{ends_inside, inside_len, malformed_at};
 
 use crate::bytes::byte_at;
 use crate::elements::element;
@@ -9,7 +9,7 @@ use crate::piece::Piece;
 use crate::token::{Kind, LexError};
 use luau_tree::MAX_TEXT;
 
-#[tactic(auto, unfolding(crate::specs::Strings::ends_inside))]
+#[tactic(auto, unfolding(crate::specs::Computed::Strings::ends_inside))]
 fn ends_inside(mark: u8, b: u8) -> bool
     ensures { result ≡ ends_inside mark b }
 {
@@ -57,7 +57,7 @@ pub fn unless_malformed(at: u32, inside: &[u8], piece: Piece) -> Piece
 }
 
 /// The string between quotes at the front.
-#[tactic(auto, unfolding(crate::specs::Pieces::quoted_piece))]
+#[tactic(auto, unfolding(crate::specs::Computed::Pieces::quoted_piece))]
 pub fn quoted_piece(at: u32, text: &[u8]) -> Piece
     requires mark { 0 < slice_index text.now 0 }
     requires small { at + length text.now ≤ MAX_TEXT }

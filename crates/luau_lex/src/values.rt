@@ -1,7 +1,9 @@
 ghost use Rattle.std.specs.Prelude.{◌≡◌, ◌≤◌, ◌++◌, [], OnOk, IfOk, unwrap_or};
-ghost use Rattle.luau_lex.specs.Values.{between_marks, without_first_line_end, is_line_end_pair, with_line_feeds, long_value, marked_value, string_value};
-ghost use Rattle.luau_lex.specs.Strings.{utf8_scheme, value_of_inside};
-ghost use Rattle.luau_lex.specs.Steps.{stands_value, IsWritable};
+ghost use Rattle.luau_lex.specs.Computed.Values.{between_marks, long_value, marked_value, string_value};
+ghost use Rattle.luau_lex.specs.LineEnds.{without_first_line_end, is_line_end_pair, with_line_feeds};
+ghost use Rattle.luau_lex.specs.Numbers.{utf8_scheme};
+ghost use Rattle.luau_lex.specs.Computed.Strings.{value_of_inside};
+ghost use Rattle.luau_lex.specs.Computed.Steps.{stands_value, IsWritable};
 
 use crate::bytes::{Class, byte_at, run_len};
 use crate::elements::{Stands, element};
@@ -10,7 +12,7 @@ use luau_tree::Bytes;
 use std::alloc::{AllocError, Global};
 
 /// Adds the bytes of a number by the scheme of UTF-8.
-#[tactic(auto, unfolding(crate::specs::Strings::utf8_scheme))]
+#[tactic(auto, unfolding(crate::specs::Numbers::utf8_scheme))]
 fn push_code(out: &mut Vec<u8>, n: u32) -> Result<(), AllocError>
     requires { n ≤ 0x10FFFF }
     ensures { OnOk result (out.new.items ≡ out.old.items ++ utf8_scheme n) }
@@ -66,7 +68,7 @@ fn value_of_inside(alloc: Global, inside: &[u8]) -> Result<Vec<u8>, AllocError>
 }
 
 /// What stands between marks of this length at both ends.
-#[tactic(auto, unfolding(crate::specs::Values::between_marks))]
+#[tactic(auto, unfolding(crate::specs::Computed::Values::between_marks))]
 fn between_marks(mark: usize, bytes: &[u8]) -> &[u8]
     ensures { result.now ≡ between_marks mark bytes.now }
 {
@@ -83,7 +85,7 @@ fn is_line_end_pair(text: &[u8]) -> bool
 }
 
 /// The text without a line end at its front.
-#[tactic(auto, unfolding(crate::specs::Values::without_first_line_end))]
+#[tactic(auto, unfolding(crate::specs::LineEnds::without_first_line_end))]
 fn without_first_line_end(text: &[u8]) -> &[u8]
     ensures { result.now ≡ without_first_line_end text.now }
 {
@@ -110,7 +112,7 @@ fn with_line_feeds(alloc: Global, text: &[u8]) -> Result<Vec<u8>, AllocError>
 }
 
 /// The bytes of a string in long brackets.
-#[tactic(auto, unfolding(crate::specs::Values::long_value))]
+#[tactic(auto, unfolding(crate::specs::Computed::Values::long_value))]
 fn long_value(alloc: Global, bytes: &[u8]) -> Result<Vec<u8>, AllocError>
     ensures { IfOk result (λ v. v.items ≡ long_value bytes.now) }
 {
@@ -126,7 +128,7 @@ fn long_value(alloc: Global, bytes: &[u8]) -> Result<Vec<u8>, AllocError>
 }
 
 /// The bytes of a string between marks of one byte.
-#[tactic(auto, unfolding(crate::specs::Values::marked_value))]
+#[tactic(auto, unfolding(crate::specs::Computed::Values::marked_value))]
 fn marked_value(alloc: Global, bytes: &[u8]) -> Result<Vec<u8>, AllocError>
     ensures { IfOk result (λ v. v.items ≡ marked_value bytes.now) }
 {

@@ -1,6 +1,6 @@
 use Rattle.std.proofs.Common.{sym, ap, ◌∙◌, arith}
 use Rattle.std.proofs.lemmas.Slice.{between_to_end}
-use Rattle.luau_lex.specs.Brackets.{closes}
+use Rattle.luau_lex.specs.Computed.Brackets.{closes}
 use Rattle.luau_lex.proofs.BracketLemmas.{closing_found, closing_missing}
 use Rattle.luau_lex.proofs.brackets.closing_place.Goals as goal
 

@@ -1,5 +1,5 @@
 use Rattle.std.proofs.Common.{◌≡◌, ℕ, ◌<◌, false, drop}
-use Rattle.luau_lex.specs.Brackets.{closes}
+use Rattle.luau_lex.specs.Computed.Brackets.{closes}
 use Rattle.luau_lex.proofs.brackets.closing_place.Given as goal
 
 -- no bracket closes at a place passed so far

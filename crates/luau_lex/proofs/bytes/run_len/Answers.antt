@@ -1,6 +1,6 @@
 use Rattle.std.proofs.Common.{sym, arith}
 use Rattle.std.proofs.lemmas.List.Sums.{prefix_len_is}
-use Rattle.luau_lex.specs.Steps.{has}
+use Rattle.luau_lex.specs.Computed.Steps.{has}
 use Rattle.luau_lex.proofs.bytes.run_len.Goals as goal
 
 -- the byte here is not of the class

@@ -1,5 +1,5 @@
 use Rattle.std.proofs.Common.{◌≡◌, ℕ, ◌<◌, true, get_or}
-use Rattle.luau_lex.specs.Steps.{has}
+use Rattle.luau_lex.specs.Computed.Steps.{has}
 use Rattle.luau_lex.proofs.bytes.run_len.Given as goal
 
 -- each byte passed so far is of the class

@@ -1,6 +1,6 @@
 use Rattle.std.proofs.Common.{◌+◌, ◌*◌, arith, get_or, drop}
 use Rattle.std.proofs.lemmas.List.{at_drop_more}
-use Rattle.luau_lex.specs.Strings.{number_behind, digit_number}
+use Rattle.luau_lex.specs.Numbers.{number_behind, digit_number}
 use Rattle.luau_lex.proofs.StringLemmas.{number_grows}
 use Rattle.luau_lex.proofs.elements.number_in.Goals as goal
 

@@ -1,5 +1,5 @@
 use Rattle.std.proofs.Common.{◌≡◌, ◌≤◌, drop}
-use Rattle.luau_lex.specs.Strings.{number_in, number_behind}
+use Rattle.luau_lex.specs.Numbers.{number_in, number_behind}
 use Rattle.luau_lex.proofs.elements.number_in.Given as goal
 
 -- the number so far is small, and the digits that are left make the whole number of it

@@ -1,5 +1,5 @@
 use Rattle.std.proofs.Common.{length}
-use Rattle.luau_lex.specs.Steps.{IsSmall, HasRead}
+use Rattle.luau_lex.specs.Computed.Steps.{IsSmall, HasRead}
 use Rattle.luau_lex.proofs.reader.lex.Given as goal
 
 -- the reader will have found in the end what the text has

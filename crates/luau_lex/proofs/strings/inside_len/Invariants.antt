@@ -1,5 +1,5 @@
 use Rattle.std.proofs.Common.{◌≡◌, ◌+◌, ◌-◌, ◌≤◌, length, drop}
-use Rattle.luau_lex.specs.Strings.{inside_len}
+use Rattle.luau_lex.specs.Computed.Strings.{inside_len}
 use Rattle.luau_lex.proofs.strings.inside_len.Given as goal
 
 -- the inside goes on from here as it does from its begin

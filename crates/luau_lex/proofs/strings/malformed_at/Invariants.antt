@@ -1,6 +1,6 @@
 use Rattle.std.proofs.Common.{◌≡◌, ◌+◌, ◌-◌, ◌≤◌, length, drop}
 use Rattle.std.specs.Prelude.{option_map}
-use Rattle.luau_lex.specs.Strings.{malformed_at}
+use Rattle.luau_lex.specs.Computed.Strings.{malformed_at}
 use Rattle.luau_lex.proofs.strings.malformed_at.Given as goal
 
 -- no malformed escape stands before this place

@@ -1,5 +1,5 @@
 use Rattle.std.proofs.Common.{◌≡◌, ◌-◌, ◌≤◌, ◌++◌, length, drop}
-use Rattle.luau_lex.specs.Strings.{value_of_inside}
+use Rattle.luau_lex.specs.Computed.Strings.{value_of_inside}
 use Rattle.luau_lex.proofs.values.value_of_inside.Given as goal
 
 -- the bytes so far, and what the rest stands for

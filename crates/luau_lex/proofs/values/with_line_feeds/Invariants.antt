@@ -1,5 +1,5 @@
 use Rattle.std.proofs.Common.{◌≡◌, ◌++◌, drop}
-use Rattle.luau_lex.specs.Values.{with_line_feeds}
+use Rattle.luau_lex.specs.LineEnds.{with_line_feeds}
 use Rattle.luau_lex.proofs.values.with_line_feeds.Given as goal
 
 -- the bytes so far, and what the rest becomes

@@ -1,7 +1,7 @@
 use Rattle.std.proofs.Common.{OnOk, Result, Ok, Err, sym, ap, ◌∙◌, map}
-use Rattle.luau_lex.specs.Pieces.{piece}
-use Rattle.luau_lex.specs.Tokens.{seen_token}
-use Rattle.luau_lex.specs.Grammar.{StandsHere}
+use Rattle.luau_lex.specs.Computed.Pieces.{piece}
+use Rattle.luau_lex.specs.Token.{seen_token}
+use Rattle.luau_lex.specs.Computed.Reads.{StandsHere}
 use Rattle.luau_lex.specs.declared.piece.Piece.TheVariants.{Gap, Found, Faulty}
 use Rattle.luau_lex.proofs.GrammarLemmas.{gap_has, found_has, fault_has}
 use Rattle.luau_lex.proofs.reader.Reader.read.Goals as goal

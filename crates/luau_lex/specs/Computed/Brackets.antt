@@ -1,4 +1,4 @@
--- Long brackets.
+-- Long brackets, computed.
 use Rattle.std.specs.Prelude.{ℕ, Bool, ◌&&◌, ◌==◌, List, [], ◌∷◌, drop, slice_index, if◌then◌else◌, Option, Some, None, option_map, suc}
 use Rattle.std.specs.List.{prefix_len}
 use Rattle.luau_lex.specs.Bytes.{equals, bracket, closing_bracket}

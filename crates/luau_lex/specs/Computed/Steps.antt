@@ -1,5 +1,5 @@
 -- What the code keeps on its way through a text: the state of its reader, its classes of bytes, and its form of an
--- element of a string. No public clause of `lex` or `value_of` and no law cites these, so no reader needs to believe them.
+-- element of a string.
 use Rattle.std.specs.Prelude.{ℕ, Bool, ◌+◌, ◌≤◌, ◌==◌, List, [], ◌∷◌, ◌++◌, length, map, Option, Some, None, Result, Ok, Err}
 use Rattle.std.specs.Char.{is_ascii_digit, is_ascii_hexdigit}
 use Rattle.luau_tree.specs.declared.position.TheConstants.{MAX_TEXT}
@@ -12,9 +12,10 @@ use Rattle.luau_lex.specs.declared.token.LexError.{LexError}
 use Rattle.luau_lex.specs.declared.reader.Reader.{Reader}
 use Rattle.luau_lex.specs.declared.piece.Piece.{Piece}
 use Rattle.luau_lex.specs.Bytes.{equals, is_blank, is_name_byte, is_digit_or_underscore, is_numeral_byte, is_hex_or_underscore, is_binary_or_underscore, is_no_line_feed}
-use Rattle.luau_lex.specs.Strings.{Element, utf8_scheme}
-use Rattle.luau_lex.specs.Grammar.{Reads, HasTokens}
-use Rattle.luau_lex.specs.Tokens.{Tok, seen_token}
+use Rattle.luau_lex.specs.Computed.Reads.{Reads, HasTokens}
+use Rattle.luau_lex.specs.Computed.Strings.{Element}
+use Rattle.luau_lex.specs.Numbers.{utf8_scheme}
+use Rattle.luau_lex.specs.Token.{Tok, seen_token}
 
 -- which bytes are of a class
 abbrev pub has : Class → ℕ → Bool

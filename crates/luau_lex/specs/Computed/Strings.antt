@@ -1,34 +1,15 @@
--- Strings: what stands inside of one, piece by piece, how far its inside goes, and what bytes it stands for.
+-- Strings, computed: what stands inside of one, element by element, how far its inside goes, and what it stands for.
 use Rattle.std.specs.Prelude.{ℕ, Bool, zero, suc, ◌+◌, ◌-◌, ◌*◌, ◌/◌, ◌%◌, min, ◌&&◌, ◌||◌, ◌==◌, nat_lt, nat_le, List, [], ◌∷◌, ◌++◌, length, take, drop, slice_index, if◌then◌else◌, Option, Some, None, option_map, unwrap_or, is_some}
 use Rattle.std.specs.List.{prefix_len}
 use Rattle.std.specs.Char.{is_ascii_digit, is_ascii_hexdigit}
 use Rattle.luau_lex.specs.Bytes.{line_feed, carriage_return, backslash, backquote, brace, closing_brace, is_blank}
+use Rattle.luau_lex.specs.Numbers.{digit_number, number_in, utf8_scheme}
 
 -- One byte or one escape: how many bytes it takes in the text, and the bytes that it stands for. An escape
 -- that is malformed stands for none.
 pub record Element : Type 0 where
   pub len : ℕ
   pub value : Option (List ℕ)
-
--- the number that a digit writes, of which there are sixteen
-unfoldable pub digit_number : ℕ → ℕ
-digit_number b = if nat_le b 57 then b - 48 else (if nat_le b 70 then b - 55 else b - 87)
-
--- the number that these digits write in a base, behind those of a number before them
-abbrev pub number_behind : ℕ → ℕ → List ℕ → ℕ
-number_behind base n [] = n
-number_behind base n (d ∷ digits) = number_behind base (base * n + digit_number d) digits
-
-abbrev pub number_in : ℕ → List ℕ → ℕ
-number_in base digits = number_behind base 0 digits
-
--- the bytes of a number by the scheme of UTF-8, which gives surrogates three bytes too
-unfoldable pub utf8_scheme : ℕ → List ℕ
-utf8_scheme n =
-    if nat_lt n 0x80 then n ∷ []
-    else (if nat_lt n 0x800 then (0xC0 + n / 0x40) ∷ (0x80 + n % 0x40) ∷ []
-    else (if nat_lt n 0x10000 then (0xE0 + n / 0x1000) ∷ (0x80 + n / 0x40 % 0x40) ∷ (0x80 + n % 0x40) ∷ []
-    else (0xF0 + n / 0x40000) ∷ (0x80 + n / 0x1000 % 0x40) ∷ (0x80 + n / 0x40 % 0x40) ∷ (0x80 + n % 0x40) ∷ []))
 
 -- \x and two hexadecimal digits; the text is what follows the x
 unfoldable pub byte_escape : List ℕ → Element

@@ -1,20 +1,24 @@
--- Pieces: what stands at a place of a text. A piece is a gap between tokens (blanks, or a comment), a token,
--- or the fault of what begins there.
-use Rattle.std.specs.Prelude.{ℕ, ◌+◌, ◌-◌, ◌&&◌, ◌||◌, ◌==◌, List, [], ◌∷◌, ◌++◌, length, take, drop, slice_index, slice_get, if◌then◌else◌, Option, Some, None}
-use Rattle.std.specs.List.{prefix_len}
+-- The piece at a place of a text, computed: blanks or a comment, a token, or the fault of what begins there.
+use Rattle.std.specs.Prelude.{ℕ, List, [], ◌∷◌, if◌then◌else◌, ◌+◌, ◌-◌, ◌&&◌, ◌||◌, ◌==◌, ◌++◌, length, take, drop, slice_index, slice_get, Option, Some, None}
 use Rattle.luau_lex.specs.declared.token.Kind.{Kind}
 use Rattle.luau_lex.specs.declared.token.Kind.TheVariants.{Name, Word, Numeral, Quoted, Long, Whole, Begin, Mid, End, Sign}
+use Rattle.std.specs.List.{prefix_len}
 use Rattle.luau_lex.specs.declared.token.LexError.TheVariants.{UnfinishedString, UnfinishedComment, BadEscape, BadNumeral, StrayByte, DoubleBrace}
 use Rattle.luau_lex.specs.declared.piece.Piece.{Piece}
 use Rattle.luau_lex.specs.declared.piece.Piece.TheVariants.{Gap, Found, Faulty}
 use Rattle.luau_lex.specs.declared.piece.Open.{Open}
 use Rattle.luau_lex.specs.declared.piece.Open.TheVariants.{Brace, Part}
 use Rattle.luau_lex.specs.Bytes.{double_quote, single_quote, minus, backquote, brace, closing_brace, is_blank, is_name_start, is_name_byte, is_no_line_feed}
-use Rattle.luau_lex.specs.Names.{name_kind}
-use Rattle.luau_lex.specs.Numerals.{begins_numeral, numeral_len, is_numeral}
-use Rattle.luau_lex.specs.Signs.{sign_len}
-use Rattle.luau_lex.specs.Brackets.{level, closing_place}
-use Rattle.luau_lex.specs.Strings.{inside_len, malformed_at}
+use Rattle.luau_lex.specs.Computed.Brackets.{level, closing_place}
+use Rattle.luau_lex.specs.Computed.Numerals.{numeral_len, is_numeral}
+use Rattle.luau_lex.specs.Computed.Signs.{sign_len}
+use Rattle.luau_lex.specs.Computed.Strings.{inside_len, malformed_at}
+use Rattle.luau_lex.specs.Names.{is_listed, reserved_words}
+use Rattle.luau_lex.specs.Numerals.{begins_numeral}
+
+-- the kind of a name with these bytes
+unfoldable pub name_kind : List ℕ → Kind
+name_kind bytes = if is_listed bytes reserved_words then Word else Name
 
 -- all name bytes that follow
 unfoldable pub name_piece : List ℕ → Piece
