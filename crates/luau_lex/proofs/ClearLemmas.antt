@@ -1,21 +1,19 @@
 -- No sign stands where a long bracket opens, and no brace behind the one that leaves a string.
-use Rattle.std.proofs.Common.{◌≡◌, ◌≢◌, ℕ, suc, ◌+◌, ◌-◌, ◌≤◌, true, eqb, cond, List, [], ◌∷◌, take, drop, slice_index, Result, Ok, Err, Option, Some, None, sym, refl, ap, subst, ◌∙◌, arith, add-zero, get_or-drop}
+use Rattle.std.proofs.Common.{◌≡◌, ◌≢◌, ℕ, suc, ◌+◌, ◌-◌, ◌≤◌, true, eqb, cond, List, [], ◌∷◌, take, drop, slice_index, Option, Some, None, sym, refl, ap, subst, ◌∙◌, arith, add-zero, get_or-drop}
 use Rattle.std.proofs.lemmas.Bool.{eqb-false}
 use Rattle.luau_lex.specs.declared.token.Kind.{Kind}
 use Rattle.luau_lex.specs.declared.token.Kind.TheVariants.{Name, Word, Numeral, Quoted, Long, Whole, Begin, Mid, End, Sign}
-use Rattle.luau_lex.specs.declared.token.LexError.{LexError}
 use Rattle.luau_lex.specs.declared.token.LexError.TheVariants.{UnfinishedString, DoubleBrace}
-use Rattle.luau_lex.specs.declared.piece.Piece.{Piece}
-use Rattle.luau_lex.specs.declared.piece.Piece.TheVariants.{Gap, Found, Faulty}
+use Rattle.luau_lex.specs.declared.piece.Piece.TheVariants.{Found, Faulty}
 use Rattle.luau_lex.specs.declared.piece.Open.{Open}
 use Rattle.luau_lex.specs.Bytes.{bracket, backquote, brace, closing_brace}
 use Rattle.luau_lex.specs.Computed.Brackets.{level, closing_place}
 use Rattle.luau_lex.specs.Computed.Strings.{inside_len, malformed_at}
-use Rattle.luau_lex.specs.Computed.Pieces.{unless_malformed, part_piece, long_of, long_piece, bracket_or_sign, part_open, innermost, closing_piece, piece, opens_behind}
+use Rattle.luau_lex.specs.Computed.Pieces.{unless_malformed, part_piece, long_of, long_piece, bracket_or_sign, part_open, innermost, closing_piece, piece}
 use Rattle.luau_lex.specs.Token.{Tok}
-use Rattle.luau_lex.specs.Computed.Tokens.{token_at, with_token}
-use Rattle.luau_lex.specs.Places.{first_line_len, StandInOrder}
-use Rattle.luau_lex.specs.Computed.Reads.{StandsHere, Reads, HasTokens}
+use Rattle.luau_lex.specs.Computed.Tokens.{token_at}
+use Rattle.luau_lex.specs.Places.{StandInOrder}
+use Rattle.luau_lex.specs.Computed.Reads.{StandsHere}
 use Rattle.luau_lex.specs.Forms.{HasForm, NoneOpens}
 use Rattle.luau_lex.specs.LongestTokens.{leaves_string, StandClear}
 use Rattle.luau_lex.proofs.LongLemmas.{level_bracket}

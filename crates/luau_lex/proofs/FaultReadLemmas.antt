@@ -1,8 +1,8 @@
 -- A fault that stands at a place is the one that is read there.
-use Rattle.std.proofs.Common.{◌≡◌, ◌≢◌, ◌⊎◌, inl, inr, ℕ, suc, ◌+◌, ◌<◌, ◌≤◌, Bool, true, false, ◌&&◌, ◌||◌, eqb, cond, List, [], ◌∷◌, ◌++◌, length, take, drop, slice_index, flat_map, Option, Some, None, option_map, is_some, sym, refl, ap, subst, ◌∙◌, arith, append_assoc, ne_eqb, eq-eqb, length-append, length-take-le}
+use Rattle.std.proofs.Common.{◌≡◌, ◌≢◌, ◌⊎◌, inl, inr, ℕ, suc, ◌+◌, ◌<◌, ◌≤◌, true, false, ◌&&◌, ◌||◌, eqb, cond, List, [], ◌∷◌, ◌++◌, length, take, drop, slice_index, flat_map, Option, Some, None, option_map, is_some, sym, refl, ap, subst, ◌∙◌, arith, ne_eqb, eq-eqb, length-append, length-take-le}
 use Rattle.std.specs.List.{prefix_len}
 use Rattle.std.proofs.str.Laws.{order}
-use Rattle.std.proofs.Math.Seq.{take-append_seam, get_or-append_seam, drop-append_seam}
+use Rattle.std.proofs.Math.Seq.{take-append_seam, drop-append_seam}
 use Rattle.std.proofs.lemmas.List.{take-append-drop, get_or-append-add}
 use Rattle.luau_lex.specs.declared.token.Kind.{Kind}
 use Rattle.luau_lex.specs.declared.token.Kind.TheVariants.{Numeral, Quoted, Whole, Begin, Mid, End, Sign}
@@ -10,22 +10,22 @@ use Rattle.luau_lex.specs.declared.token.LexError.{LexError}
 use Rattle.luau_lex.specs.declared.token.LexError.TheVariants.{UnfinishedString, UnfinishedComment, BadEscape, BadNumeral, StrayByte, DoubleBrace, NoMemory}
 use Rattle.luau_lex.specs.declared.piece.Piece.TheVariants.{Gap, Found, Faulty}
 use Rattle.luau_lex.specs.declared.piece.Open.{Open}
-use Rattle.luau_lex.specs.Bytes.{line_feed, carriage_return, backslash, double_quote, single_quote, minus, bracket, closing_bracket, backquote, brace, closing_brace, is_blank, is_name_start}
+use Rattle.luau_lex.specs.Bytes.{line_feed, carriage_return, backslash, double_quote, single_quote, minus, bracket, backquote, brace, closing_brace, is_blank, is_name_start}
 use Rattle.luau_lex.specs.Numerals.{begins_numeral, IsNumeral, IsNumeralWord}
 use Rattle.luau_lex.specs.Signs.{is_sign}
 use Rattle.luau_lex.specs.Spellings.{Spelling, written, stands_for, AreSpellings, are_well_formed}
-use Rattle.luau_lex.specs.Forms.{bracket_of, NoneOpens}
-use Rattle.luau_lex.specs.LongestTokens.{NoLongerWord, NoComment}
-use Rattle.luau_lex.specs.Faults.{BeginsNothing, NeverCloses, BeginsString, HasInside, EndsString, BreaksOff, IsFault}
+use Rattle.luau_lex.specs.Forms.{bracket_of}
+use Rattle.luau_lex.specs.LongestTokens.{NoLongerWord}
+use Rattle.luau_lex.specs.Faults.{BeginsNothing, NeverCloses, BeginsString, EndsString, BreaksOff, IsFault}
 use Rattle.luau_lex.specs.Computed.Numerals.{numeral_len, is_numeral}
 use Rattle.luau_lex.specs.Computed.Signs.{sign_len}
-use Rattle.luau_lex.specs.Computed.Brackets.{level, closes, closing_place}
+use Rattle.luau_lex.specs.Computed.Brackets.{closes, closing_place}
 use Rattle.luau_lex.specs.Computed.Strings.{ends_inside, inside_len, malformed_at}
-use Rattle.luau_lex.specs.Computed.Pieces.{name_piece, numeral_piece, unless_malformed, quoted_piece, part_piece, long_of, long_piece, long_comment_of, comment_of, sign_piece, bracket_or_sign, part_open, innermost, other_piece, piece}
+use Rattle.luau_lex.specs.Computed.Pieces.{name_piece, numeral_piece, unless_malformed, quoted_piece, part_piece, long_of, long_piece, long_comment_of, comment_of, sign_piece, bracket_or_sign, innermost, other_piece, piece}
 use Rattle.luau_lex.proofs.LongestLemmas.{Longest}
 use Rattle.luau_lex.proofs.BracketLemmas.{closing_missing}
 use Rattle.luau_lex.proofs.SignLemmas.{sign_longest}
-use Rattle.luau_lex.proofs.SpellingLemmas.{and_at, or_at}
+use Rattle.luau_lex.proofs.SpellingLemmas.{and_at}
 use Rattle.luau_lex.proofs.InsideLemmas.{inside_again}
 use Rattle.luau_lex.proofs.MeaningLemmas.{narrow_all, malformed_place, malformed_spelled, well_formed_none}
 use Rattle.luau_lex.proofs.LongLemmas.{bracket_len, level_bracket, closes_front}
@@ -190,12 +190,22 @@ reads_string braces at mark first start (inl (same, begin, inr (inl is))) =
     inl (same, begin, inr is, λ rest. ap (λ k. piece ob at (k ∷ rest)) (same ∙ is) ∙ at_single ob at rest ∙ ap (λ k. quoted_piece at (k ∷ rest)) (sym is))
 reads_string braces at mark first start (inl (same, begin, inr (inr is))) =
     let ob = innermost (outward braces) in
-    inr (is, Whole, Begin, λ rest. ap (λ k. piece ob at (k ∷ rest)) (same ∙ is) ∙ at_backquote ob at rest
-        ∙ ap (λ k. part_piece Whole Begin k at (backquote ∷ rest)) (sym begin) ∙ ap (λ k. part_piece Whole Begin start at (k ∷ rest)) (sym (same ∙ is)))
+    inr (
+      is,
+      Whole,
+      Begin,
+      λ rest. ap (λ k. piece ob at (k ∷ rest)) (same ∙ is) ∙ at_backquote ob at rest
+          ∙ ap (λ k. part_piece Whole Begin k at (backquote ∷ rest)) (sym begin) ∙ ap (λ k. part_piece Whole Begin start at (k ∷ rest)) (sym (same ∙ is)),
+    )
 reads_string braces at mark first start (inr (same, is, begun)) =
     let ob = innermost (outward braces) in
-    inr (is, End, Mid, λ rest. ap (λ k. piece ob at (k ∷ rest)) same ∙ closing_start ob start (innermost_is braces ∙ begun) at rest
-        ∙ ap (λ k. part_piece End Mid start at (k ∷ rest)) (sym same))
+    inr (
+      is,
+      End,
+      Mid,
+      λ rest. ap (λ k. piece ob at (k ∷ rest)) same ∙ closing_start ob start (innermost_is braces ∙ begun) at rest
+          ∙ ap (λ k. part_piece End Mid start at (k ∷ rest)) (sym same),
+    )
 
 mark_apart : (ob : Option Open) (at mark first start : ℕ) → ReadsQuoted ob at mark first start ⊎ ReadsPart ob at mark first start → mark ≢ backslash
 mark_apart ob at mark first start (inl (same, begin, inl is, reads)) wrong = omega (arith, is, wrong)

@@ -1,28 +1,23 @@
 -- Each token that stands in a text has the form of its kind.
-use Rattle.std.proofs.Common.{◌≡◌, ℕ, zero, suc, ◌+◌, ◌<◌, ◌≤◌, Bool, true, false, ◌&&◌, ◌||◌, inl, inr, eqb, cond, List, [], ◌∷◌, ◌++◌, length, take, drop, get_or, slice_index, flat_map, Result, Ok, Err, Option, Some, None, sym, refl, ap, subst, ◌∙◌, arith}
+use Rattle.std.proofs.Common.{◌≡◌, ℕ, zero, suc, ◌+◌, ◌<◌, ◌≤◌, Bool, true, false, ◌&&◌, ◌||◌, inl, inr, eqb, cond, List, [], ◌∷◌, ◌++◌, length, take, drop, get_or, slice_index, flat_map, Option, Some, None, sym, refl, ap, subst, ◌∙◌, arith}
 use Rattle.std.specs.List.{prefix_len}
 use Rattle.std.specs.Char.{is_ascii_digit}
 use Rattle.std.proofs.lemmas.Bool.{eqb-true}
 use Rattle.luau_lex.specs.declared.token.Kind.{Kind}
 use Rattle.luau_lex.specs.declared.token.Kind.TheVariants.{Name, Word, Numeral, Quoted, Long, Whole, Begin, Mid, End, Sign}
-use Rattle.luau_lex.specs.declared.token.LexError.{LexError}
 use Rattle.luau_lex.specs.declared.token.LexError.TheVariants.{UnfinishedString, BadNumeral, StrayByte, DoubleBrace}
 use Rattle.luau_lex.specs.declared.piece.Piece.{Piece}
 use Rattle.luau_lex.specs.declared.piece.Piece.TheVariants.{Gap, Found, Faulty}
 use Rattle.luau_lex.specs.declared.piece.Open.{Open}
 use Rattle.luau_lex.specs.Bytes.{double_quote, single_quote, minus, backquote, brace, closing_brace, dot, is_blank, is_name_start, is_name_byte, is_numeral_byte}
 use Rattle.luau_lex.specs.Names.{is_listed, reserved_words, is_name}
-use Rattle.luau_lex.specs.Computed.Pieces.{name_kind, name_piece, numeral_piece, unless_malformed, quoted_piece, part_piece, long_len, long_of, long_piece, long_comment_of, comment_of, comment_piece, sign_piece, bracket_or_sign, part_open, innermost, closing_piece, other_piece, piece, opens_behind}
+use Rattle.luau_lex.specs.Computed.Pieces.{name_kind, name_piece, numeral_piece, unless_malformed, quoted_piece, part_piece, long_len, long_of, long_piece, long_comment_of, comment_of, comment_piece, sign_piece, bracket_or_sign, part_open, closing_piece, other_piece, piece}
 use Rattle.luau_lex.specs.Numerals.{begins_numeral}
 use Rattle.luau_lex.specs.Computed.Numerals.{numeral_len, is_numeral}
 use Rattle.luau_lex.specs.Computed.Signs.{sign_len}
 use Rattle.luau_lex.specs.Computed.Brackets.{level, closing_place}
 use Rattle.luau_lex.specs.Computed.Strings.{inside_len, malformed_at}
-use Rattle.luau_lex.specs.Token.{Tok}
-use Rattle.luau_lex.specs.Computed.Tokens.{token_at, with_token}
-use Rattle.luau_lex.specs.Places.{first_line_len}
-use Rattle.luau_lex.specs.Computed.Reads.{Reads, HasTokens}
-use Rattle.luau_lex.specs.Forms.{IsMarked, IsLong, HasForm, HaveForms}
+use Rattle.luau_lex.specs.Forms.{IsMarked, IsLong, HasForm}
 use Rattle.luau_lex.specs.Spellings.{written, AreSpellings}
 use Rattle.luau_lex.proofs.SpellingLemmas.{and_at, or_at}
 use Rattle.luau_lex.proofs.NumeralLemmas.{numeral_form_is}

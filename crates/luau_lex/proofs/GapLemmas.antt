@@ -1,15 +1,13 @@
 -- What stands between the tokens of a text is blanks and comments.
-use Rattle.std.proofs.Common.{◌≡◌, ℕ, suc, ◌+◌, ◌-◌, ◌≤◌, Bool, true, false, ◌&&◌, ◌||◌, not, inl, inr, eqb, cond, List, [], ◌∷◌, ◌++◌, length, take, drop, slice_index, Result, Ok, Err, Option, Some, None, sym, refl, ap, subst, ◌∙◌, arith, append-nil}
+use Rattle.std.proofs.Common.{◌≡◌, ℕ, suc, ◌+◌, ◌-◌, ◌≤◌, Bool, true, false, ◌&&◌, ◌||◌, not, inl, inr, eqb, cond, List, [], ◌∷◌, ◌++◌, length, take, drop, slice_index, Option, Some, None, sym, refl, ap, subst, ◌∙◌, arith}
 use Rattle.std.specs.List.{prefix_len}
 use Rattle.std.proofs.Math.Seq.{take-add}
 use Rattle.std.proofs.lemmas.Bool.{eqb-true}
 use Rattle.std.proofs.lemmas.List.{take-append-drop, drop-drop}
 use Rattle.luau_lex.proofs.FormLemmas.{choose}
 use Rattle.luau_lex.proofs.LongLemmas.{none_opens, long_here}
-use Rattle.luau_lex.proofs.OrderLemmas.{left_behind}
 use Rattle.luau_lex.specs.declared.token.Kind.{Kind}
 use Rattle.luau_lex.specs.declared.token.Kind.TheVariants.{Numeral, Quoted, Whole, Begin, Mid, End, Sign}
-use Rattle.luau_lex.specs.declared.token.LexError.{LexError}
 use Rattle.luau_lex.specs.declared.token.LexError.TheVariants.{UnfinishedString, BadNumeral, StrayByte, DoubleBrace}
 use Rattle.luau_lex.specs.declared.piece.Piece.{Piece}
 use Rattle.luau_lex.specs.declared.piece.Piece.TheVariants.{Gap, Found, Faulty}
@@ -20,11 +18,7 @@ use Rattle.luau_lex.specs.Computed.Numerals.{numeral_len, is_numeral}
 use Rattle.luau_lex.specs.Computed.Signs.{sign_len}
 use Rattle.luau_lex.specs.Computed.Brackets.{level, closing_place}
 use Rattle.luau_lex.specs.Computed.Strings.{inside_len, malformed_at}
-use Rattle.luau_lex.specs.Computed.Pieces.{name_piece, numeral_piece, unless_malformed, quoted_piece, part_piece, long_len, long_of, long_piece, long_comment_of, comment_of, comment_piece, sign_piece, bracket_or_sign, part_open, innermost, closing_piece, other_piece, piece, opens_behind}
-use Rattle.luau_lex.specs.Token.{Tok}
-use Rattle.luau_lex.specs.Computed.Tokens.{token_at, with_token}
-use Rattle.luau_lex.specs.Places.{first_line_len, StandInOrder}
-use Rattle.luau_lex.specs.Computed.Reads.{Reads, HasTokens}
+use Rattle.luau_lex.specs.Computed.Pieces.{name_piece, numeral_piece, unless_malformed, quoted_piece, part_piece, long_len, long_of, long_piece, long_comment_of, comment_of, comment_piece, sign_piece, bracket_or_sign, part_open, closing_piece, other_piece, piece}
 use Rattle.luau_lex.specs.Forms.{EndsLine, IsGapPart, IsGapOf, IsGap}
 use Rattle.luau_lex.proofs.LongestLemmas.{blanks_longest, run_all}
 

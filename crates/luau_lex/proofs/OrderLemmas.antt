@@ -1,18 +1,12 @@
 -- The tokens of a text stand in order.
-use Rattle.std.proofs.Common.{◌≡◌, ℕ, ◌+◌, ◌-◌, ◌≤◌, Bool, true, false, cond, List, [], ◌∷◌, length, take, drop, slice_index, Result, Ok, Err, sym, refl, ap, subst, ◌∙◌, arith, length-drop}
+use Rattle.std.proofs.Common.{◌≡◌, ℕ, ◌+◌, ◌-◌, ◌≤◌, Bool, true, false, cond, List, [], ◌∷◌, length, take, drop, sym, ap, subst, ◌∙◌, arith, length-drop}
 use Rattle.std.proofs.lemmas.List.{drop-drop}
 use Rattle.std.proofs.lemmas.List.Sums.{prefix_len-le-length}
 use Rattle.luau_lex.specs.Bytes.{is_no_line_feed}
 use Rattle.luau_lex.specs.declared.token.Kind.{Kind}
-use Rattle.luau_lex.specs.declared.token.LexError.{LexError}
-use Rattle.luau_lex.specs.declared.piece.Piece.{Piece}
-use Rattle.luau_lex.specs.declared.piece.Piece.TheVariants.{Gap, Found, Faulty}
-use Rattle.luau_lex.specs.declared.piece.Open.{Open}
-use Rattle.luau_lex.specs.Computed.Pieces.{opens_behind}
 use Rattle.luau_lex.specs.Token.{Tok}
-use Rattle.luau_lex.specs.Computed.Tokens.{token_at, with_token}
+use Rattle.luau_lex.specs.Computed.Tokens.{token_at}
 use Rattle.luau_lex.specs.Places.{first_line_len, StandInOrder}
-use Rattle.luau_lex.specs.Computed.Reads.{Reads, HasTokens}
 
 -- what is left behind n bytes, from a place behind them
 pub left_behind : (at n place : ℕ) (text : List ℕ) → at + n ≤ place → drop (place - (at + n)) (drop n text) ≡ drop (place - at) text

@@ -1,13 +1,11 @@
 -- The tokens of a text are longest, and their braces match.
-use Rattle.std.proofs.Common.{◌≡◌, ◌⊎◌, inl, inr, ℕ, zero, suc, ◌+◌, ◌-◌, ◌<◌, ◌≤◌, Bool, true, false, eqb, cond, List, [], ◌∷◌, ◌++◌, length, take, drop, slice_index, slice_get, Result, Ok, Err, Option, Some, None, is_some, sym, refl, ap, subst, ◌∙◌, arith, length-append, length-take-le}
+use Rattle.std.proofs.Common.{◌≡◌, ◌⊎◌, inl, inr, ℕ, zero, suc, ◌+◌, ◌-◌, ◌<◌, ◌≤◌, Bool, true, false, eqb, cond, List, [], ◌∷◌, ◌++◌, length, take, drop, slice_index, slice_get, Option, Some, None, is_some, sym, refl, ap, subst, ◌∙◌, arith, length-append, length-take-le}
 use Rattle.std.proofs.lemmas.List.{take-append-drop}
 use Rattle.std.proofs.Math.Seq.{take-append_seam}
 use Rattle.luau_lex.specs.declared.token.Kind.{Kind}
 use Rattle.luau_lex.specs.declared.token.Kind.TheVariants.{Name, Word, Numeral, Quoted, Long, Whole, Begin, Mid, End, Sign}
-use Rattle.luau_lex.specs.declared.token.LexError.{LexError}
 use Rattle.luau_lex.specs.declared.token.LexError.TheVariants.{UnfinishedString, StrayByte, DoubleBrace}
-use Rattle.luau_lex.specs.declared.piece.Piece.{Piece}
-use Rattle.luau_lex.specs.declared.piece.Piece.TheVariants.{Gap, Found, Faulty}
+use Rattle.luau_lex.specs.declared.piece.Piece.TheVariants.{Found, Faulty}
 use Rattle.luau_lex.specs.declared.piece.Open.{Open}
 use Rattle.luau_lex.specs.declared.piece.Open.TheVariants.{Brace, Part}
 use Rattle.luau_lex.specs.Bytes.{minus, backquote, brace, closing_brace}
@@ -18,11 +16,11 @@ use Rattle.luau_lex.specs.Computed.Signs.{sign_len}
 use Rattle.luau_lex.specs.Computed.Strings.{inside_len, malformed_at}
 use Rattle.luau_lex.specs.Computed.Pieces.{unless_malformed, part_piece, comment_of, comment_piece, sign_piece, part_open, innermost, closing_piece, other_piece, piece, opens_behind}
 use Rattle.luau_lex.specs.Token.{Tok}
-use Rattle.luau_lex.specs.Computed.Tokens.{token_at, with_token}
-use Rattle.luau_lex.specs.Places.{first_line_len, StandInOrder}
-use Rattle.luau_lex.specs.Computed.Reads.{StandsHere, Reads, HasTokens}
+use Rattle.luau_lex.specs.Computed.Tokens.{token_at}
+use Rattle.luau_lex.specs.Places.{StandInOrder}
+use Rattle.luau_lex.specs.Computed.Reads.{StandsHere}
 use Rattle.luau_lex.specs.Forms.{HasForm}
-use Rattle.luau_lex.specs.Braces.{braces_by, braces_behind, string_open, goes_on_with_string, MayStand, MatchBraces}
+use Rattle.luau_lex.specs.Braces.{braces_by, braces_behind, string_open, goes_on_with_string, MayStand}
 use Rattle.luau_lex.specs.LongestTokens.{NoLongerToken, NoLongerWord, NoComment, AreLongest}
 use Rattle.luau_lex.proofs.FormLemmas.{choose, unless_found, begins_with, comment_no_token, piece_form}
 use Rattle.luau_lex.proofs.OrderLemmas.{left_behind}

@@ -1,17 +1,18 @@
 -- What strings stand for, in the words of their laws.
-use Rattle.std.proofs.Common.{◌≡◌, ◌≢◌, ℕ, ◌+◌, ◌-◌, ◌*◌, ◌≤◌, Bool, true, false, ◌&&◌, nat_lt, eqb, cond, List, [], ◌∷◌, ◌++◌, length, take, drop, slice_index, replicate, map, flat_map, codes, encode_utf8, sym, refl, ap, ◌∙◌, arith, append_assoc, length-append, eqb-true, ne_eqb}
+use Rattle.std.proofs.Common.{◌≡◌, ◌≢◌, inl, inr, ℕ, ◌+◌, ◌-◌, ◌*◌, ◌≤◌, Bool, true, false, ◌&&◌, nat_lt, eqb, cond, List, [], ◌∷◌, ◌++◌, length, take, drop, slice_index, replicate, map, flat_map, codes, encode_utf8, sym, refl, ap, ◌∙◌, arith, append_assoc, length-append, eqb-true, ne_eqb}
 use Rattle.std.proofs.Math.Seq.{take-append_seam, drop-append_seam}
 use Rattle.std.proofs.Math.Utf8.{encode}
 use Rattle.luau_lex.specs.declared.token.Kind.{Kind}
 use Rattle.luau_lex.specs.declared.token.Kind.TheVariants.{Name, Word, Numeral, Quoted, Long, Whole, Begin, Mid, End, Sign}
-use Rattle.luau_lex.specs.Bytes.{line_feed, carriage_return, equals, bracket, closing_bracket}
+use Rattle.luau_lex.specs.Bytes.{line_feed, carriage_return, double_quote, single_quote, equals, bracket, closing_bracket, backquote, brace, closing_brace}
 use Rattle.luau_lex.specs.Computed.Brackets.{equals_len}
 use Rattle.luau_lex.specs.Numbers.{digit_number, number_behind, number_in, utf8_scheme}
 use Rattle.luau_lex.specs.Computed.Strings.{value_of_inside}
 use Rattle.luau_lex.specs.Spellings.{Spelling, written, AreSpellings, stand_for}
 use Rattle.luau_lex.specs.Computed.Values.{between_marks, long_value, marked_value, string_value}
 use Rattle.luau_lex.specs.LineEnds.{is_line_end_pair, without_first_line_end, with_line_feeds}
-use Rattle.luau_lex.specs.Forms.{bracket_of, in_brackets}
+use Rattle.luau_lex.specs.Forms.{IsMarked, bracket_of, in_brackets, HasForm}
+use Rattle.luau_lex.specs.Values.{is_string, MarkedStandsFor, StandsFor}
 use Rattle.luau_lex.proofs.MeaningLemmas.{narrow_all, value_spelled}
 use Rattle.luau_lex.proofs.LongLemmas.{signs_in, bracket_len}
 
@@ -29,20 +30,8 @@ marked_stands mark first last inside are =
     ap value_of_inside (between 1 (first ∷ []) (flat_map written inside) (last ∷ []) refl refl)
     ∙ value_spelled mark inside (narrow_all mark inside [] (last ∷ []) are)
 
-pub string_stands : (kind : Kind) (mark first last : ℕ) (inside : List Spelling) → kind ≢ Long → AreSpellings mark inside (last ∷ []) → string_value kind (first ∷ (flat_map written inside ++ last ∷ [])) ≡ stand_for inside
-string_stands Name mark first last inside other are = marked_stands mark first last inside are
-string_stands Word mark first last inside other are = marked_stands mark first last inside are
-string_stands Numeral mark first last inside other are = marked_stands mark first last inside are
-string_stands Quoted mark first last inside other are = marked_stands mark first last inside are
-string_stands Long mark first last inside other are = absurd (other refl)
-string_stands Whole mark first last inside other are = marked_stands mark first last inside are
-string_stands Begin mark first last inside other are = marked_stands mark first last inside are
-string_stands Mid mark first last inside other are = marked_stands mark first last inside are
-string_stands End mark first last inside other are = marked_stands mark first last inside are
-string_stands Sign mark first last inside other are = marked_stands mark first last inside are
-
 -- a string in long brackets stands for its body, line by line
-pub long_stands : (signs : ℕ) (body : List ℕ) → string_value Long (in_brackets signs body) ≡ with_line_feeds (without_first_line_end body)
+long_stands : (signs : ℕ) (body : List ℕ) → string_value Long (in_brackets signs body) ≡ with_line_feeds (without_first_line_end body)
 unfolding long_value
 long_stands signs body =
     let a = bracket_of bracket signs in
@@ -52,11 +41,41 @@ long_stands signs body =
     ap (λ k. with_line_feeds (without_first_line_end (between_marks (k + 2) bytes))) level
     ∙ ap (λ l. with_line_feeds (without_first_line_end l)) (between (signs + 2) a body b (bracket_len bracket signs) (bracket_len closing_bracket signs))
 
-feed_dropped : (body : List ℕ) → without_first_line_end (line_feed ∷ body) ≡ body
+-- what is computed is what a string stands for
+pub stands_so : (kind : Kind) (bytes : List ℕ) → StandsFor kind bytes (string_value kind bytes)
+stands_so Name bytes = λ mark first last inside is are. ap marked_value is ∙ marked_stands mark first last inside are
+stands_so Word bytes = λ mark first last inside is are. ap marked_value is ∙ marked_stands mark first last inside are
+stands_so Numeral bytes = λ mark first last inside is are. ap marked_value is ∙ marked_stands mark first last inside are
+stands_so Quoted bytes = λ mark first last inside is are. ap marked_value is ∙ marked_stands mark first last inside are
+stands_so Long bytes = λ signs body is. ap (string_value Long) is ∙ long_stands signs body
+stands_so Whole bytes = λ mark first last inside is are. ap marked_value is ∙ marked_stands mark first last inside are
+stands_so Begin bytes = λ mark first last inside is are. ap marked_value is ∙ marked_stands mark first last inside are
+stands_so Mid bytes = λ mark first last inside is are. ap marked_value is ∙ marked_stands mark first last inside are
+stands_so End bytes = λ mark first last inside is are. ap marked_value is ∙ marked_stands mark first last inside are
+stands_so Sign bytes = λ mark first last inside is are. ap marked_value is ∙ marked_stands mark first last inside are
+
+one_marked : (mark first last : ℕ) (bytes v w : List ℕ) → IsMarked mark first last bytes → MarkedStandsFor bytes v → MarkedStandsFor bytes w → v ≡ w
+one_marked mark first last bytes v w is f g = f mark first last is.0 is.1 is.2 ∙ sym (g mark first last is.0 is.1 is.2)
+
+-- and it stands for nothing else
+pub one_value : (kind : Kind) (bytes v w : List ℕ) → is_string kind ≡ true → HasForm kind bytes → StandsFor kind bytes v → StandsFor kind bytes w → v ≡ w
+one_value Quoted bytes v w string (inl is) f g = one_marked double_quote double_quote double_quote bytes v w is f g
+one_value Quoted bytes v w string (inr is) f g = one_marked single_quote single_quote single_quote bytes v w is f g
+one_value Long bytes v w string is f g = f is.0 is.1 is.2.0 ∙ sym (g is.0 is.1 is.2.0)
+one_value Whole bytes v w string is f g = one_marked backquote backquote backquote bytes v w is f g
+one_value Begin bytes v w string is f g = one_marked backquote backquote brace bytes v w is f g
+one_value Mid bytes v w string is f g = one_marked backquote closing_brace brace bytes v w is f g
+one_value End bytes v w string is f g = one_marked backquote closing_brace backquote bytes v w is f g
+one_value Name bytes v w string is f g = absurd (cc)
+one_value Word bytes v w string is f g = absurd (cc)
+one_value Numeral bytes v w string is f g = absurd (cc)
+one_value Sign bytes v w string is f g = absurd (cc)
+
+pub feed_dropped : (body : List ℕ) → without_first_line_end (line_feed ∷ body) ≡ body
 unfolding without_first_line_end
 feed_dropped body = refl
 
-pair_dropped : (body : List ℕ) → without_first_line_end (carriage_return ∷ line_feed ∷ body) ≡ body
+pub pair_dropped : (body : List ℕ) → without_first_line_end (carriage_return ∷ line_feed ∷ body) ≡ body
 unfolding without_first_line_end
 pair_dropped body = refl
 
@@ -76,20 +95,11 @@ no_pair_first (b ∷ c ∷ body) other =
     not_both (eqb b carriage_return) (eqb c line_feed)
     (λ first second. other body (ap (λ k. k ∷ c ∷ body) (eqb-true b carriage_return first) ∙ ap (λ k. carriage_return ∷ k ∷ body) (eqb-true c line_feed second)))
 
-none_dropped : (body : List ℕ) → ((behind : List ℕ) → body ≢ line_feed ∷ behind) → ((behind : List ℕ) → body ≢ carriage_return ∷ line_feed ∷ behind) → without_first_line_end body ≡ body
+pub none_dropped : (body : List ℕ) → ((behind : List ℕ) → body ≢ line_feed ∷ behind) → ((behind : List ℕ) → body ≢ carriage_return ∷ line_feed ∷ behind) → without_first_line_end body ≡ body
 unfolding without_first_line_end
 none_dropped body no_line no_pair =
     ap (λ t. cond t (drop 1 body) (cond (is_line_end_pair body) (drop 2 body) body)) (no_feed body no_line)
     ∙ ap (λ t. cond t (drop 2 body) body) (no_pair_first body no_pair)
-
-pub feed_first : (signs : ℕ) (body : List ℕ) → string_value Long (in_brackets signs (line_feed ∷ body)) ≡ with_line_feeds body
-feed_first signs body = long_stands signs (line_feed ∷ body) ∙ ap with_line_feeds (feed_dropped body)
-
-pub pair_first : (signs : ℕ) (body : List ℕ) → string_value Long (in_brackets signs (carriage_return ∷ line_feed ∷ body)) ≡ with_line_feeds body
-pair_first signs body = long_stands signs (carriage_return ∷ line_feed ∷ body) ∙ ap with_line_feeds (pair_dropped body)
-
-pub other_first : (signs : ℕ) (body : List ℕ) → ((behind : List ℕ) → body ≢ line_feed ∷ behind) → ((behind : List ℕ) → body ≢ carriage_return ∷ line_feed ∷ behind) → string_value Long (in_brackets signs body) ≡ with_line_feeds body
-other_first signs body no_line no_pair = long_stands signs body ∙ ap with_line_feeds (none_dropped body no_line no_pair)
 
 -- a pair behind a byte isn't of that byte
 feed_behind : (before behind : List ℕ) → eqb (slice_index (before ++ carriage_return ∷ line_feed ∷ behind) 0) line_feed ≡ eqb (slice_index before 0) line_feed

@@ -1,7 +1,6 @@
 -- Tokens and faults stand within their text.
-use Rattle.std.proofs.Common.{◌≡◌, inl, inr, ℕ, zero, suc, ◌+◌, ◌-◌, ◌<◌, ◌≤◌, Bool, true, false, eqb, cond, List, [], ◌∷◌, ◌++◌, length, take, drop, get_or, slice_index, flat_map, map, Option, Some, None, Ok, Err, refl, ap, ◌∙◌, arith, length-append, length-drop, length-take-le}
+use Rattle.std.proofs.Common.{◌≡◌, inl, inr, ℕ, zero, suc, ◌+◌, ◌-◌, ◌<◌, ◌≤◌, Bool, true, false, eqb, cond, List, [], ◌∷◌, ◌++◌, length, take, drop, slice_index, flat_map, map, Some, None, ap, arith, length-append, length-drop, length-take-le}
 use Rattle.std.specs.Prelude.{slice_index_or, All, AllPairs}
-use Rattle.std.specs.Char.{is_ascii_digit}
 use Rattle.luau_lex.specs.declared.token.Kind.{Kind}
 use Rattle.luau_lex.specs.declared.token.Kind.TheVariants.{Name, Word, Numeral, Quoted, Long, Whole, Begin, Mid, End, Sign}
 use Rattle.luau_lex.specs.declared.token.Token.{Token}

@@ -7,8 +7,8 @@ use Rattle.luau_lex.specs.declared.piece.Open.TheVariants.{Brace, Part}
 use Rattle.luau_lex.specs.Bytes.{brace, closing_brace}
 use Rattle.luau_lex.specs.Token.{Tok}
 
--- The open braces behind a token, from the innermost to the outermost. The first part of an interpolated string
--- opens one and its last closes it; so do the signs of braces.
+-- The open braces behind a token, from the innermost to the outermost. The first part of an
+-- interpolated string opens one and its last closes it; so do the signs of braces.
 abbrev pub braces_by : Kind → ℕ → ℕ → List Open → List Open
 braces_by Begin start first opens = Part start ∷ opens
 braces_by End start first opens = drop 1 opens
@@ -26,7 +26,8 @@ braces_by Mid start first opens = opens
 abbrev pub braces_behind : Tok → List Open → List Open
 braces_behind t opens = braces_by t.kind t.span.start (slice_index t.bytes 0) opens
 
--- where the interpolated string begins that a closing brace goes on with, where the innermost open brace is one's
+-- where the interpolated string begins that a closing brace goes on with, where the innermost open
+-- brace is one's
 abbrev pub string_open : List Open → Option ℕ
 string_open [] = None
 string_open (Brace ∷ opens) = None
@@ -45,13 +46,13 @@ goes_on_with_string Whole = false
 goes_on_with_string Begin = false
 goes_on_with_string Sign = false
 
--- A token of this kind may stand within these braces: one that goes on with an interpolated string only where
--- the innermost is a string's.
+-- A token of this kind may stand within these braces: one that goes on with an interpolated string
+-- only where the innermost is a string's.
 abbrev pub MayStand : List Open → Kind → Type 0
 MayStand opens kind = goes_on_with_string kind ≡ true → is_some (string_open opens) ≡ true
 
--- Each token may stand within the braces that are open before it, and a closing brace is a sign only where the
--- innermost open one is no string's.
+-- Each token may stand within the braces that are open before it, and a closing brace is a sign
+-- only where the innermost open one is no string's.
 abbrev pub MatchBraces : List Open → List Tok → Type 0
 MatchBraces opens [] = Unit {0}
 MatchBraces opens (t ∷ ts) =

@@ -1,5 +1,5 @@
 -- The forms of tokens, and of what stands between them, by cases on their bytes.
-use Rattle.std.specs.Prelude.{◌≡◌, ℕ, ◌-◌, ◌≤◌, true, false, ◌⊎◌, List, [], ◌∷◌, ◌++◌, length, slice_index, flat_map, replicate, take, drop, ◌+◌, ◌<◌, Bool, ◌&&◌, nat_lt}
+use Rattle.std.specs.Prelude.{◌≡◌, ℕ, ◌≤◌, true, false, ◌⊎◌, List, [], ◌∷◌, ◌++◌, length, slice_index, flat_map, replicate, Bool, ◌&&◌, nat_lt}
 use Rattle.std.specs.List.{list_all}
 use Rattle.luau_lex.specs.declared.token.Kind.{Kind}
 use Rattle.luau_lex.specs.declared.token.Kind.TheVariants.{Name, Word, Numeral, Quoted, Long, Whole, Begin, Mid, End, Sign}
@@ -10,8 +10,8 @@ use Rattle.luau_lex.specs.Signs.{is_sign}
 use Rattle.luau_lex.specs.Spellings.{Spelling, written, AreSpellings, are_well_formed}
 use Rattle.luau_lex.specs.Token.{Tok}
 
--- A string of this mark between these two bytes: what stands between them is spelled as the inside of such a
--- string, with no malformed escape.
+-- A string of this mark between these two bytes: what stands between them is spelled as the inside
+-- of such a string, with no malformed escape.
 abbrev pub IsMarked : ℕ → ℕ → ℕ → List ℕ → Type 0
 IsMarked mark first last bytes =
     (inside : List Spelling) × (bytes ≡ first ∷ (flat_map written inside ++ last ∷ []))
@@ -24,7 +24,9 @@ bracket_of b signs = b ∷ (replicate signs equals ++ b ∷ [])
 -- Before the closing bracket of this level behind the body, none stands.
 abbrev pub ClosesFirst : ℕ → List ℕ → Type 0
 ClosesFirst signs body =
-    (before behind : List ℕ) → body ++ bracket_of closing_bracket signs ≡ before ++ (bracket_of closing_bracket signs ++ behind) → length body ≤ length before
+    let closing = bracket_of closing_bracket signs in
+    (before behind : List ℕ) → body ++ closing ≡ before ++ (closing ++ behind) →
+    length body ≤ length before
 
 -- a body in long brackets of this level
 abbrev pub in_brackets : ℕ → List ℕ → List ℕ
@@ -39,7 +41,9 @@ abbrev pub HasForm : Kind → List ℕ → Type 0
 HasForm Name bytes = (is_name bytes ≡ true) × (is_listed bytes reserved_words ≡ false)
 HasForm Word bytes = (is_name bytes ≡ true) × (is_listed bytes reserved_words ≡ true)
 HasForm Numeral bytes = IsNumeral bytes
-HasForm Quoted bytes = IsMarked double_quote double_quote double_quote bytes ⊎ IsMarked single_quote single_quote single_quote bytes
+HasForm Quoted bytes =
+    IsMarked double_quote double_quote double_quote bytes
+    ⊎ IsMarked single_quote single_quote single_quote bytes
 HasForm Long bytes = (signs : ℕ) × (body : List ℕ) × IsLong signs body bytes
 HasForm Whole bytes = IsMarked backquote backquote backquote bytes
 HasForm Begin bytes = IsMarked backquote backquote brace bytes
@@ -67,22 +71,26 @@ EndsLine behind = (behind ≡ []) ⊎ (slice_index behind 0 ≡ line_feed)
 -- a comment to the end of its line, before these bytes
 abbrev pub IsLineComment : List ℕ → List ℕ → Type 0
 IsLineComment bytes behind =
-    (words : List ℕ) × (bytes ≡ minus ∷ minus ∷ words) × (list_all is_no_line_feed words ≡ true) × NoneOpens words × EndsLine behind
+    (words : List ℕ) × (bytes ≡ minus ∷ minus ∷ words) × (list_all is_no_line_feed words ≡ true)
+    × NoneOpens words × EndsLine behind
 
 -- a comment in long brackets
 abbrev pub IsLongComment : List ℕ → Type 0
 IsLongComment bytes =
-    (signs : ℕ) × (body : List ℕ) × (long : List ℕ) × (bytes ≡ minus ∷ minus ∷ long) × IsLong signs body long
+    (signs : ℕ) × (body : List ℕ) × (long : List ℕ) × (bytes ≡ minus ∷ minus ∷ long)
+    × IsLong signs body long
 
 -- blanks, or a comment, before these bytes
 abbrev pub IsGapPart : List ℕ → List ℕ → Type 0
-IsGapPart bytes behind = (is_blanks bytes ≡ true) ⊎ (IsLineComment bytes behind ⊎ IsLongComment bytes)
+IsGapPart bytes behind =
+    (is_blanks bytes ≡ true) ⊎ (IsLineComment bytes behind ⊎ IsLongComment bytes)
 
 -- these parts of blanks and comments, one behind the other, before these bytes
 abbrev pub IsGapOf : List (List ℕ) → List ℕ → List ℕ → Type 0
 IsGapOf [] bytes behind = bytes ≡ []
 IsGapOf (part ∷ parts) bytes behind =
-    (rest : List ℕ) × IsGapPart part (rest ++ behind) × (bytes ≡ part ++ rest) × IsGapOf parts rest behind
+    (rest : List ℕ) × IsGapPart part (rest ++ behind) × (bytes ≡ part ++ rest)
+    × IsGapOf parts rest behind
 
 -- blanks and comments alone, or nothing, before these bytes
 abbrev pub IsGap : List ℕ → List ℕ → Type 0

@@ -1,5 +1,5 @@
 -- The line ends of a string in long brackets.
-use Rattle.std.specs.Prelude.{ℕ, Bool, ◌+◌, ◌-◌, ◌*◌, ◌&&◌, ◌==◌, List, [], ◌∷◌, drop, slice_index, if◌then◌else◌}
+use Rattle.std.specs.Prelude.{ℕ, Bool, ◌&&◌, ◌==◌, List, [], ◌∷◌, drop, slice_index, if◌then◌else◌}
 use Rattle.luau_lex.specs.Bytes.{line_feed, carriage_return}
 
 -- a carriage return stands directly before a line feed at the front

@@ -1,5 +1,5 @@
 -- No token could be longer at its place.
-use Rattle.std.specs.Prelude.{◌≡◌, ◌≢◌, ℕ, ◌-◌, ◌<◌, ◌≤◌, ◌⊎◌, Bool, true, false, List, [], ◌∷◌, ◌++◌, length, take, drop, slice_index}
+use Rattle.std.specs.Prelude.{◌≡◌, ◌≢◌, ℕ, ◌-◌, ◌<◌, ◌≤◌, Bool, true, false, List, [], ◌∷◌, length, take, drop, slice_index}
 use Rattle.luau_lex.specs.declared.token.Kind.{Kind}
 use Rattle.luau_lex.specs.declared.token.Kind.TheVariants.{Name, Word, Numeral, Quoted, Long, Whole, Begin, Mid, End, Sign}
 use Rattle.luau_lex.specs.declared.piece.Open.{Open}
@@ -12,7 +12,8 @@ use Rattle.luau_lex.specs.Token.{Tok}
 -- no longer front of the text than of n bytes is a token that may stand there
 abbrev pub NoLongerToken : List Open → List ℕ → ℕ → Type 0
 NoLongerToken opens text n =
-    (kind : Kind) (m : ℕ) → n < m → m ≤ length text → MayStand opens kind → HasForm kind (take m text) → ⊥
+    (kind : Kind) (m : ℕ) → n < m → m ≤ length text → MayStand opens kind →
+    HasForm kind (take m text) → ⊥
 
 -- no longer front of the text than of n bytes looks like a numeral
 abbrev pub NoLongerWord : List ℕ → ℕ → Type 0
@@ -22,8 +23,9 @@ NoLongerWord text n = (m : ℕ) → n < m → m ≤ length text → IsNumeralWor
 abbrev pub NoComment : List ℕ → Type 0
 NoComment text = (behind : List ℕ) → text ≢ minus ∷ minus ∷ behind
 
--- No token of the text whose rest from this offset on is given could be longer at its place, within the braces
--- that are open there. A numeral is the whole word, and none stands where a comment begins.
+-- No token of the text whose rest from this offset on is given could be longer at its place, within
+-- the braces that are open there. A numeral is the whole word, and none stands where a comment
+-- begins.
 abbrev pub AreLongest : List Open → ℕ → List ℕ → List Tok → Type 0
 AreLongest opens at text [] = Unit {0}
 AreLongest opens at text (t ∷ ts) =
@@ -45,8 +47,8 @@ leaves_string Whole = false
 leaves_string End = false
 leaves_string Sign = false
 
--- No sign stands where a long bracket opens, and no brace directly behind the one that leaves an interpolated
--- string, in the text whose rest from this offset on is given.
+-- No sign stands where a long bracket opens, and no brace directly behind the one that leaves an
+-- interpolated string, in the text whose rest from this offset on is given.
 abbrev pub StandClear : ℕ → List ℕ → List Tok → Type 0
 StandClear at text [] = Unit {0}
 StandClear at text (t ∷ ts) =

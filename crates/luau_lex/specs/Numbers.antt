@@ -1,5 +1,5 @@
 -- The number that digits write, and the bytes of a code point.
-use Rattle.std.specs.Prelude.{ℕ, ◌+◌, ◌-◌, ◌*◌, ◌/◌, ◌%◌, ◌&&◌, ◌||◌, ◌==◌, nat_lt, nat_le, List, [], ◌∷◌, ◌++◌, if◌then◌else◌}
+use Rattle.std.specs.Prelude.{ℕ, ◌+◌, ◌-◌, ◌*◌, ◌/◌, ◌%◌, nat_lt, nat_le, List, [], ◌∷◌, if◌then◌else◌}
 
 -- the number that a digit writes, of which there are sixteen
 unfoldable pub digit_number : ℕ → ℕ
@@ -18,5 +18,7 @@ unfoldable pub utf8_scheme : ℕ → List ℕ
 utf8_scheme n =
     if nat_lt n 0x80 then n ∷ []
     else (if nat_lt n 0x800 then (0xC0 + n / 0x40) ∷ (0x80 + n % 0x40) ∷ []
-    else (if nat_lt n 0x10000 then (0xE0 + n / 0x1000) ∷ (0x80 + n / 0x40 % 0x40) ∷ (0x80 + n % 0x40) ∷ []
-    else (0xF0 + n / 0x40000) ∷ (0x80 + n / 0x1000 % 0x40) ∷ (0x80 + n / 0x40 % 0x40) ∷ (0x80 + n % 0x40) ∷ []))
+    else (if nat_lt n 0x10000
+    then (0xE0 + n / 0x1000) ∷ (0x80 + n / 0x40 % 0x40) ∷ (0x80 + n % 0x40) ∷ []
+    else (0xF0 + n / 0x40000) ∷ (0x80 + n / 0x1000 % 0x40) ∷ (0x80 + n / 0x40 % 0x40) ∷
+    (0x80 + n % 0x40) ∷ []))

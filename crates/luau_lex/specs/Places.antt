@@ -9,10 +9,13 @@ use Rattle.luau_lex.specs.Token.{Tok}
 
 -- the length of a first line that begins with #!, which is read as a comment
 unfoldable pub first_line_len : List ℕ → ℕ
-first_line_len text = if (slice_index text 0 == 35) && (slice_index text 1 == 33) then prefix_len is_no_line_feed text else 0
+first_line_len text =
+    if (slice_index text 0 == 35) && (slice_index text 1 == 33) then prefix_len is_no_line_feed text
+    else 0
 
--- The tokens stand in order in the text whose rest from this offset on is given: each has a byte at least,
--- begins where the one before it ends or behind that, and has the bytes of the text at its place.
+-- The tokens stand in order in the text whose rest from this offset on is given: each has a byte at
+-- least, begins where the one before it ends or behind that, and has the bytes of the text at its
+-- place.
 abbrev pub StandInOrder : ℕ → List ℕ → List Tok → Type 0
 StandInOrder at text [] = Unit {0}
 StandInOrder at text (t ∷ ts) =

@@ -14,10 +14,11 @@ letter_x = 120
 abbrev pub letter_z : ℕ
 letter_z = 122
 
--- One byte or one escape: a plain byte; \z and the blanks that it skips; \x and two hexadecimal digits; a
--- backslash and decimal digits; \u and hexadecimal digits in braces; a backslash before a carriage return and
--- a line feed; and a backslash before any other byte. Or a malformed escape: a backslash at the end of the
--- text, \x or \u before anything else, or digits of a number that is no byte.
+-- One byte or one escape: a plain byte; \z and the blanks that it skips; \x and two hexadecimal
+-- digits; a backslash and decimal digits; \u and hexadecimal digits in braces; a backslash before a
+-- carriage return and a line feed; and a backslash before any other byte. Or a malformed escape: a
+-- backslash at the end of the text, \x or \u before anything else, or digits of a number that is no
+-- byte.
 pub data Spelling : Type 0 where
   Plain : (b : ℕ) → Spelling
   Skip : (blanks : List ℕ) → Spelling
@@ -78,24 +79,30 @@ AreDecimalDigits digits behind =
 abbrev pub AreHexDigits : List ℕ → Type 0
 AreHexDigits digits = (list_all is_ascii_hexdigit digits ≡ true) × (0 < length digits)
 
--- In a string of this mark and before these bytes, it is spelled so. A plain byte is none that ends the inside,
--- and no backslash.
+-- In a string of this mark and before these bytes, it is spelled so. A plain byte is none that ends
+-- the inside, and no backslash.
 abbrev pub IsSpelling : ℕ → Spelling → List ℕ → Type 0
 IsSpelling mark (Plain b) behind =
-    (b ≢ backslash) × (b ≢ mark) × (b ≢ line_feed) × (b ≢ carriage_return) × (mark ≡ backquote → b ≢ brace)
-IsSpelling mark (Skip blanks) behind = (list_all is_blank blanks ≡ true) × (is_blank (slice_index behind 0) ≡ false)
+    (b ≢ backslash) × (b ≢ mark) × (b ≢ line_feed) × (b ≢ carriage_return)
+    × (mark ≡ backquote → b ≢ brace)
+IsSpelling mark (Skip blanks) behind =
+    (list_all is_blank blanks ≡ true) × (is_blank (slice_index behind 0) ≡ false)
 IsSpelling mark (Hex a b) behind = (is_ascii_hexdigit a ≡ true) × (is_ascii_hexdigit b ≡ true)
-IsSpelling mark (Decimal digits) behind = AreDecimalDigits digits behind × (number_in 10 digits ≤ 255)
+IsSpelling mark (Decimal digits) behind =
+    AreDecimalDigits digits behind × (number_in 10 digits ≤ 255)
 IsSpelling mark (CodePoint digits) behind = AreHexDigits digits × (number_in 16 digits ≤ 0x10FFFF)
 IsSpelling mark LineEnd behind = Unit {0}
 IsSpelling mark (Escaped b) behind =
     (is_ascii_digit b ≡ false) × (b ≢ letter_u) × (b ≢ letter_x) × (b ≢ letter_z)
     × (b ≡ carriage_return → slice_index behind 0 ≢ line_feed)
 IsSpelling mark CutShort behind = behind ≡ []
-IsSpelling mark BadHex behind = is_ascii_hexdigit (slice_index behind 0) && is_ascii_hexdigit (slice_index behind 1) ≡ false
+IsSpelling mark BadHex behind =
+    is_ascii_hexdigit (slice_index behind 0) && is_ascii_hexdigit (slice_index behind 1) ≡ false
 IsSpelling mark BadCodePoint behind =
-    (digits more : List ℕ) → behind ≡ brace ∷ (digits ++ closing_brace ∷ more) → AreHexDigits digits → 0x10FFFF < number_in 16 digits
-IsSpelling mark (BadDecimal digits) behind = AreDecimalDigits digits behind × (255 < number_in 10 digits)
+    (digits more : List ℕ) → behind ≡ brace ∷ (digits ++ closing_brace ∷ more) →
+    AreHexDigits digits → 0x10FFFF < number_in 16 digits
+IsSpelling mark (BadDecimal digits) behind =
+    AreDecimalDigits digits behind × (255 < number_in 10 digits)
 
 -- Each is spelled so in a string of this mark, one directly behind the other, before these bytes.
 abbrev pub AreSpellings : ℕ → List Spelling → List ℕ → Type 0

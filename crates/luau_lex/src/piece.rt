@@ -1,6 +1,7 @@
 use crate::token::{Kind, LexError};
 
-/// What stands at a place of a text.
+/// A piece of a text, what stands at a place: blanks or a comment, a token, or the fault of what
+/// begins there.
 #[derive(Debug, Drop)]
 pub enum Piece {
     /// Blanks or a comment, of so many bytes.

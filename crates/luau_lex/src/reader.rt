@@ -65,7 +65,8 @@ impl<'s> Reader<'s> {
     fn read(&mut self) -> Result<(), LexError>
         requires some { 0 < length self.old.rest.now }
         requires small { IsSmall self.old }
-        ensures pieces { OnOk result ((text : List ℕ) → HasRead text self.old → HasRead text self.new) }
+        ensures pieces { OnOk result ((text : List ℕ) →
+            HasRead text self.old → HasRead text self.new) }
         ensures fault { IfErr result (λ e. e ≢ NoMemory →
             (text : List ℕ) → HasRead text self.old → HasTokens text (Err e)) }
         ensures shorter { OnOk result (length self.new.rest.now < length self.old.rest.now) }
@@ -143,8 +144,8 @@ fn first_line_len(text: &[u8]) -> usize
     }
 }
 
-/// The tokens of a text of at most 1,048,576 bytes, in order. Comments and blanks are left out. The rules are in
-/// `docs/LANGUAGE.md`, "Tokens".
+/// The tokens of a text of at most 1,048,576 bytes, in order. Comments and blanks are left out. The
+/// rules are in `docs/LANGUAGE.md`, "Tokens".
 ///
 /// Fails at the first fault of the text, which has no tokens then, or where memory runs out.
 pub fn lex<'s>(alloc: Global, text: &'s [u8]) -> Result<Vec<Token<'s>>, LexError>
@@ -152,7 +153,8 @@ pub fn lex<'s>(alloc: Global, text: &'s [u8]) -> Result<Vec<Token<'s>>, LexError
     // The tokens meet the laws of a text's tokens, up to its end.
     ensures tokens { IfOk result (λ v. Lexed text.now (map seen_token v.items) None) }
     // Some tokens meet these laws up to the fault, and there the fault stands.
-    ensures fault { IfErr result (λ e. e ≢ NoMemory → (ts : List Tok) × Lexed text.now ts (Some e)) }
+    ensures fault { IfErr result (λ e. e ≢ NoMemory →
+        (ts : List Tok) × Lexed text.now ts (Some e)) }
     // Each token has a byte at least and lies within the text, and ends before the next ones begin.
     ensures spans { IfOk result (λ v. All (λ t. IsWithinText (length text.now) t.span) v.items) }
     ensures order { IfOk result (λ v. AllPairs (λ s t. s.span.end ≤ t.span.start) v.items) }

@@ -1,5 +1,6 @@
 ghost use Rattle.std.specs.Prelude.{◌≡◌, ◌≤◌, ◌++◌, [], OnOk, IfOk, unwrap_or};
 ghost use Rattle.luau_lex.specs.Computed.Values.{between_marks, long_value, marked_value, string_value};
+ghost use Rattle.luau_lex.specs.Values.{StandsFor};
 ghost use Rattle.luau_lex.specs.LineEnds.{without_first_line_end, is_line_end_pair, with_line_feeds};
 ghost use Rattle.luau_lex.specs.Numbers.{utf8_scheme};
 ghost use Rattle.luau_lex.specs.Computed.Strings.{value_of_inside};
@@ -135,10 +136,12 @@ fn marked_value(alloc: Global, bytes: &[u8]) -> Result<Vec<u8>, AllocError>
     value_of_inside(alloc, between_marks(1, bytes))
 }
 
-/// The bytes that a string, or a part of an interpolated string, stands for, without its marks. The token is one
-/// that `lex` gave, and of such a kind. The rules are in `docs/LANGUAGE.md`, "Tokens".
+/// The bytes that a string, or a part of an interpolated string, stands for, without its marks. The
+/// token is one that `lex` gave, and of such a kind. The rules are in `docs/LANGUAGE.md`, "Tokens".
 pub fn value_of(alloc: Global, token: &Token<'_>) -> Result<Bytes, AllocError>
-    ensures { IfOk result (λ v. v ≡ string_value token.now.kind token.now.text.now) }
+    ensures value { IfOk result (λ v. StandsFor token.now.kind token.now.text.now v) }
+    // The same value as a function.
+    ensures computed { IfOk result (λ v. v ≡ string_value token.now.kind token.now.text.now) }
 {
     let value = match token.kind {
         Kind::Long => long_value(alloc, token.text)?,

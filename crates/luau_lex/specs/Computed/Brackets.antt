@@ -11,7 +11,8 @@ equals_len text = prefix_len (λ b. b == equals) text
 unfoldable pub level : List ℕ → Option ℕ
 level text =
     let signs = equals_len (drop 1 text) in
-    if (slice_index text 0 == bracket) && (slice_index (drop 1 text) signs == bracket) then Some signs else None
+    if (slice_index text 0 == bracket) && (slice_index (drop 1 text) signs == bracket)
+    then Some signs else None
 
 -- a long bracket of this level closes at the front
 unfoldable pub closes : ℕ → List ℕ → Bool
@@ -22,4 +23,5 @@ closes signs text =
 -- how many bytes stand before the first place where a long bracket of this level closes
 unfoldable pub closing_place : ℕ → List ℕ → Option ℕ
 closing_place signs [] = None
-closing_place signs (x ∷ xs) = if closes signs (x ∷ xs) then Some 0 else option_map (λ n. suc n) (closing_place signs xs)
+closing_place signs (x ∷ xs) =
+    if closes signs (x ∷ xs) then Some 0 else option_map (λ n. suc n) (closing_place signs xs)

@@ -11,8 +11,8 @@ exponent_len text =
     then (if is_exponent_sign (slice_index text 1) then 2 else 1)
     else 0
 
--- The word of a numeral: all digits, dots and underscores; then an exponent's letter and sign; then all
--- letters, digits and underscores.
+-- The word of a numeral: all digits, dots and underscores; then an exponent's letter and sign; then
+-- all letters, digits and underscores.
 unfoldable pub numeral_len : List ℕ → ℕ
 numeral_len text =
     let digits = prefix_len is_numeral_byte text in
@@ -21,7 +21,8 @@ numeral_len text =
 
 -- a digit, and then digits and underscores
 unfoldable pub is_digits : List ℕ → Bool
-is_digits text = is_ascii_digit (slice_index text 0) && (prefix_len is_digit_or_underscore text == length text)
+is_digits text =
+    is_ascii_digit (slice_index text 0) && (prefix_len is_digit_or_underscore text == length text)
 
 -- nothing, or an exponent: its letter, a sign or none, and digits
 unfoldable pub is_exponent_or_none : List ℕ → Bool
@@ -38,20 +39,25 @@ after_fraction text =
 
 -- digits, a fraction and an exponent
 unfoldable pub is_decimal : List ℕ → Bool
-is_decimal word = is_exponent_or_none (after_fraction (drop (prefix_len is_digit_or_underscore word) word))
+is_decimal word =
+    is_exponent_or_none (after_fraction (drop (prefix_len is_digit_or_underscore word) word))
 
 -- one or more hexadecimal digits and underscores, at least one of them a digit
 unfoldable pub is_hex_part : List ℕ → Bool
-is_hex_part text = (prefix_len is_hex_or_underscore text == length text) && list_any is_ascii_hexdigit text
+is_hex_part text =
+    (prefix_len is_hex_or_underscore text == length text) && list_any is_ascii_hexdigit text
 
 -- one or more of 0, 1 and underscores, at least one of them a digit
 unfoldable pub is_binary_part : List ℕ → Bool
-is_binary_part text = (prefix_len is_binary_or_underscore text == length text) && list_any is_ascii_digit text
+is_binary_part text =
+    (prefix_len is_binary_or_underscore text == length text) && list_any is_ascii_digit text
 
 -- the word of a numeral is a numeral
 unfoldable pub is_numeral : List ℕ → Bool
 is_numeral word =
     let second = slice_index word 1 in
-    if (slice_index word 0 == 48) && ((second == 120) || (second == 88)) then is_hex_part (drop 2 word)
-    else (if (slice_index word 0 == 48) && ((second == 98) || (second == 66)) then is_binary_part (drop 2 word)
+    if (slice_index word 0 == 48) && ((second == 120) || (second == 88))
+    then is_hex_part (drop 2 word)
+    else (if (slice_index word 0 == 48) && ((second == 98) || (second == 66))
+    then is_binary_part (drop 2 word)
     else is_decimal word)

@@ -1,4 +1,5 @@
--- The piece at a place of a text, computed: blanks or a comment, a token, or the fault of what begins there.
+-- The piece at a place of a text, computed: blanks or a comment, a token, or the fault of what
+-- begins there.
 use Rattle.std.specs.Prelude.{ℕ, List, [], ◌∷◌, if◌then◌else◌, ◌+◌, ◌-◌, ◌&&◌, ◌||◌, ◌==◌, ◌++◌, length, take, drop, slice_index, slice_get, Option, Some, None}
 use Rattle.luau_lex.specs.declared.token.Kind.{Kind}
 use Rattle.luau_lex.specs.declared.token.Kind.TheVariants.{Name, Word, Numeral, Quoted, Long, Whole, Begin, Mid, End, Sign}
@@ -27,15 +28,16 @@ name_piece text = let n = prefix_len is_name_byte text in Found (name_kind (take
 -- the word of a numeral, which must be a numeral
 unfoldable pub numeral_piece : ℕ → List ℕ → Piece
 numeral_piece at text =
-    let n = numeral_len text in if is_numeral (take n text) then Found Numeral n else Faulty (BadNumeral at)
+    let n = numeral_len text in if is_numeral (take n text) then Found Numeral n
+    else Faulty (BadNumeral at)
 
 -- the piece, if no escape inside of the string at this place is malformed
 abbrev pub unless_malformed : ℕ → Option ℕ → Piece → Piece
 unless_malformed at None piece = piece
 unless_malformed at (Some n) piece = Faulty (BadEscape (at + 1 + n))
 
--- A string between two marks, each the first byte of the text. It is unfinished where its inside ends at
--- anything but the mark.
+-- A string between two marks, each the first byte of the text. It is unfinished where its inside
+-- ends at anything but the mark.
 unfoldable pub quoted_piece : ℕ → List ℕ → Piece
 quoted_piece at text =
     let mark = slice_index text 0 in
@@ -45,9 +47,9 @@ quoted_piece at text =
     then unless_malformed at (malformed_at (take n behind)) (Found Quoted (n + 2))
     else Faulty (UnfinishedString at)
 
--- A part of an interpolated string, after the backquote or the closing brace at the front. It is of one kind
--- where a backquote ends it and of the other where a brace does. Two braces are a fault. Where neither ends
--- it, the string that began at the start is unfinished.
+-- A part of an interpolated string, after the backquote or the closing brace at the front. It is of
+-- one kind where a backquote ends it and of the other where a brace does. Two braces are a fault.
+-- Where neither ends it, the string that began at the start is unfinished.
 unfoldable pub part_piece : Kind → Kind → ℕ → ℕ → List ℕ → Piece
 part_piece last further start at text =
     let behind = drop 1 text in
@@ -55,10 +57,12 @@ part_piece last further start at text =
     let bad = malformed_at (take n behind) in
     if slice_index behind n == backquote then unless_malformed at bad (Found last (n + 2))
     else (if slice_index behind n == brace
-    then unless_malformed at bad (if slice_index behind (n + 1) == brace then Faulty (DoubleBrace (at + 1 + n)) else Found further (n + 2))
+    then unless_malformed at bad (if slice_index behind (n + 1) == brace
+    then Faulty (DoubleBrace (at + 1 + n)) else Found further (n + 2))
     else Faulty (UnfinishedString start))
 
--- the long bracket of this level that begins with so many bytes up to its second bracket is closed there
+-- the long bracket of this level that begins with so many bytes up to its second bracket is closed
+-- there
 abbrev pub long_len : ℕ → ℕ → ℕ → ℕ
 long_len signs opening place = opening + place + signs + 2
 
@@ -75,10 +79,12 @@ unfoldable pub long_comment_of : ℕ → Option ℕ → ℕ → Piece
 long_comment_of at None signs = Faulty (UnfinishedComment at)
 long_comment_of at (Some place) signs = Gap (long_len signs (signs + 4) place)
 
--- a comment goes to the end of its line, or where a long bracket opens at once, to where that closes
+-- a comment goes to the end of its line, or where a long bracket opens at once, to where that
+-- closes
 unfoldable pub comment_of : Option ℕ → ℕ → List ℕ → Piece
 comment_of None at text = Gap (2 + prefix_len is_no_line_feed (drop 2 text))
-comment_of (Some signs) at text = long_comment_of at (closing_place signs (drop (signs + 4) text)) signs
+comment_of (Some signs) at text =
+    long_comment_of at (closing_place signs (drop (signs + 4) text)) signs
 
 unfoldable pub comment_piece : ℕ → List ℕ → Piece
 comment_piece at text = comment_of (level (drop 2 text)) at text
@@ -102,7 +108,8 @@ part_open (Some (Part start)) = Some start
 abbrev pub innermost : List Open → Option Open
 innermost opens = slice_get opens (length opens - 1)
 
--- a closing brace goes on with the interpolated string whose brace is the innermost open one, or is a sign
+-- a closing brace goes on with the interpolated string whose brace is the innermost open one, or is
+-- a sign
 unfoldable pub closing_piece : Option ℕ → ℕ → List ℕ → Piece
 closing_piece None at text = sign_piece at text
 closing_piece (Some start) at text = part_piece End Mid start at text
@@ -116,7 +123,8 @@ other_piece open_brace at text =
     else (if (b == minus) && (slice_index text 1 == minus) then comment_piece at text
     else bracket_or_sign (level text) at text))
 
--- the piece at the front of a text that isn't empty, at this offset and within this innermost open brace
+-- the piece at the front of a text that isn't empty, at this offset and within this innermost open
+-- brace
 unfoldable pub piece : Option Open → ℕ → List ℕ → Piece
 piece open_brace at text =
     let b = slice_index text 0 in

@@ -1,5 +1,5 @@
--- What the code keeps on its way through a text: the state of its reader, its classes of bytes, and its form of an
--- element of a string.
+-- What the code keeps on its way through a text: the state of its reader, its classes of bytes, and
+-- its form of an element of a string.
 use Rattle.std.specs.Prelude.{ℕ, Bool, ◌+◌, ◌≤◌, ◌==◌, List, [], ◌∷◌, ◌++◌, length, map, Option, Some, None, Result, Ok, Err}
 use Rattle.std.specs.Char.{is_ascii_digit, is_ascii_hexdigit}
 use Rattle.luau_tree.specs.declared.position.TheConstants.{MAX_TEXT}
@@ -59,4 +59,7 @@ IsSmall r = r.at + length r.rest.now ≤ MAX_TEXT
 
 -- Whatever the text has from where the reader is on, it has behind the tokens that were found.
 abbrev pub HasRead : List ℕ → Reader → Type 0
-HasRead text r = (ps : List Piece) (rest : Result (List Tok) LexError) → Reads r.opens.items r.at r.rest.now ps rest → HasTokens text (with_tokens (map seen_token r.tokens.items) rest)
+HasRead text r =
+    (ps : List Piece) (rest : Result (List Tok) LexError) →
+    Reads r.opens.items r.at r.rest.now ps rest →
+    HasTokens text (with_tokens (map seen_token r.tokens.items) rest)

@@ -1,12 +1,13 @@
--- Strings, computed: what stands inside of one, element by element, how far its inside goes, and what it stands for.
-use Rattle.std.specs.Prelude.{ℕ, Bool, zero, suc, ◌+◌, ◌-◌, ◌*◌, ◌/◌, ◌%◌, min, ◌&&◌, ◌||◌, ◌==◌, nat_lt, nat_le, List, [], ◌∷◌, ◌++◌, length, take, drop, slice_index, if◌then◌else◌, Option, Some, None, option_map, unwrap_or, is_some}
+-- Strings, computed: what stands inside of one, element by element, how far its inside goes, and
+-- what it stands for.
+use Rattle.std.specs.Prelude.{ℕ, Bool, zero, suc, ◌+◌, ◌-◌, ◌*◌, min, ◌&&◌, ◌||◌, ◌==◌, nat_lt, nat_le, List, [], ◌∷◌, ◌++◌, length, take, drop, slice_index, if◌then◌else◌, Option, Some, None, option_map, unwrap_or, is_some}
 use Rattle.std.specs.List.{prefix_len}
 use Rattle.std.specs.Char.{is_ascii_digit, is_ascii_hexdigit}
 use Rattle.luau_lex.specs.Bytes.{line_feed, carriage_return, backslash, backquote, brace, closing_brace, is_blank}
 use Rattle.luau_lex.specs.Numbers.{digit_number, number_in, utf8_scheme}
 
--- One byte or one escape: how many bytes it takes in the text, and the bytes that it stands for. An escape
--- that is malformed stands for none.
+-- One byte or one escape: how many bytes it takes in the text, and the bytes that it stands for. An
+-- escape that is malformed stands for none.
 pub record Element : Type 0 where
   pub len : ℕ
   pub value : Option (List ℕ)
@@ -20,20 +21,23 @@ byte_escape text =
     then record { len = 4; value = Some ((16 * digit_number a + digit_number b) ∷ []) }
     else record { len = 2; value = None }
 
--- a backslash and one to three decimal digits, of a number that is at most 255; the text begins with them
+-- a backslash and one to three decimal digits, of a number that is at most 255; the text begins
+-- with them
 unfoldable pub decimal_escape : List ℕ → Element
 decimal_escape text =
     let digits = min 3 (prefix_len is_ascii_digit text) in
     let number = number_in 10 (take digits text) in
     record { len = 1 + digits; value = if nat_le number 255 then Some (number ∷ []) else None }
 
--- \u{H}, where H are hexadecimal digits of a number that is at most 10FFFF; the text is what follows the u
+-- \u{H}, where H are hexadecimal digits of a number that is at most 10FFFF; the text is what
+-- follows the u
 unfoldable pub code_escape : List ℕ → Element
 code_escape text =
     let inside = drop 1 text in
     let digits = prefix_len is_ascii_hexdigit inside in
     let number = number_in 16 (take digits inside) in
-    if (slice_index text 0 == brace) && (nat_lt 0 digits && ((slice_index inside digits == closing_brace) && nat_le number 0x10FFFF))
+    if (slice_index text 0 == brace)
+    && (nat_lt 0 digits && ((slice_index inside digits == closing_brace) && nat_le number 0x10FFFF))
     then record { len = 4 + digits; value = Some (utf8_scheme number) }
     else record { len = 2; value = None }
 
@@ -52,7 +56,8 @@ escape text =
     else (if b == 120 then byte_escape (drop 1 text)
     else (if b == 117 then code_escape (drop 1 text)
     else (if is_ascii_digit b then decimal_escape text
-    else (if (b == carriage_return) && (slice_index text 1 == line_feed) then record { len = 3; value = Some (line_feed ∷ []) }
+    else (if (b == carriage_return) && (slice_index text 1 == line_feed)
+    then record { len = 3; value = Some (line_feed ∷ []) }
     else record { len = 2; value = Some (letter_escape b ∷ []) })))))
 
 -- what stands at the front of a text inside of a string
@@ -61,13 +66,15 @@ element text =
     let b = slice_index text 0 in
     if b == backslash then escape (drop 1 text) else record { len = 1; value = Some (b ∷ []) }
 
--- The inside of a string ends before its mark, before a line feed or carriage return that no escape takes
--- up, and in an interpolated string before a brace.
+-- The inside of a string ends before its mark, before a line feed or carriage return that no escape
+-- takes up, and in an interpolated string before a brace.
 unfoldable pub ends_inside : ℕ → ℕ → Bool
-ends_inside mark b = (b == mark) || ((b == line_feed) || ((b == carriage_return) || ((mark == backquote) && (b == brace))))
+ends_inside mark b =
+    (b == mark) || ((b == line_feed)
+    || ((b == carriage_return) || ((mark == backquote) && (b == brace))))
 
--- How many bytes the inside of a string takes, in the text that follows its mark. The number says how many
--- bytes at the front belong to an element that has begun.
+-- How many bytes the inside of a string takes, in the text that follows its mark. The number says
+-- how many bytes at the front belong to an element that has begun.
 abbrev pub inside_from : ℕ → ℕ → List ℕ → ℕ
 inside_from mark begun [] = 0
 inside_from mark (suc begun) (b ∷ text) = suc (inside_from mark begun text)

@@ -1,5 +1,5 @@
 -- The bytes that a string token stands for, computed.
-use Rattle.std.specs.Prelude.{ℕ, ◌+◌, ◌-◌, ◌*◌, ◌&&◌, ◌==◌, List, [], ◌∷◌, length, take, drop, if◌then◌else◌}
+use Rattle.std.specs.Prelude.{ℕ, ◌+◌, ◌-◌, ◌*◌, List, length, take, drop}
 use Rattle.luau_lex.specs.declared.token.Kind.{Kind}
 use Rattle.luau_lex.specs.declared.token.Kind.TheVariants.{Name, Word, Numeral, Quoted, Long, Whole, Begin, Mid, End, Sign}
 use Rattle.luau_lex.specs.Computed.Brackets.{equals_len}
@@ -12,7 +12,8 @@ between_marks mark bytes = take (length bytes - 2 * mark) (drop mark bytes)
 
 -- the bytes of a string in long brackets
 unfoldable pub long_value : List ℕ → List ℕ
-long_value bytes = with_line_feeds (without_first_line_end (between_marks (equals_len (drop 1 bytes) + 2) bytes))
+long_value bytes =
+    with_line_feeds (without_first_line_end (between_marks (equals_len (drop 1 bytes) + 2) bytes))
 
 -- the bytes of a string between marks of one byte
 unfoldable pub marked_value : List ℕ → List ℕ
