@@ -11,13 +11,12 @@ use Rattle.luau_lex.specs.Bytes.{line_feed, bracket, double_quote, single_quote,
 use Rattle.luau_lex.specs.Numerals.{begins_numeral}
 use Rattle.luau_lex.specs.Computed.Brackets.{level, closing_place}
 use Rattle.luau_lex.specs.Computed.Pieces.{name_piece, numeral_piece, quoted_piece, other_piece, long_len, long_comment_of, comment_of, innermost, piece}
-use Rattle.luau_lex.specs.Computed.Tokens.{tokens_from}
 use Rattle.luau_lex.specs.Forms.{bracket_of, IsLong, NoneOpens, EndsLine, IsGapPart, IsGapOf, IsGap}
 use Rattle.luau_lex.proofs.SpellingLemmas.{and_at}
 use Rattle.luau_lex.proofs.InsideLemmas.{case_of}
 use Rattle.luau_lex.proofs.LongLemmas.{all_replicate, opens_front, opens_fits, bracket_len, long_again}
 use Rattle.luau_lex.proofs.WordLemmas.{all_both}
-use Rattle.luau_lex.proofs.ReadingLemmas.{gap_read}
+use Rattle.luau_lex.proofs.CutLemmas.{cut, cut_gap}
 use Rattle.luau_lex.proofs.TokenLemmas.{at_comment}
 
 -- how far a run goes behind bytes of its class
@@ -35,32 +34,32 @@ first_blank : (xs : List ℕ) (n : ℕ) → prefix_len is_blank xs ≡ suc n →
 first_blank [] n is = absurd (omega (arith, is))
 first_blank (x ∷ xs) n is = case_of (is_blank x) (λ h. h) (λ h. absurd (let none = ap (λ t. cond t (1 + prefix_len is_blank xs) 0) h in omega (arith, is, none)))
 
-blanks_run : (opens : List Open) (at : ℕ) (text : List ℕ) (n : ℕ) → prefix_len is_blank text ≡ n → tokens_from opens 0 at text ≡ tokens_from opens 0 (at + n) (drop n text)
-blanks_run opens at text zero is = ap (λ k. tokens_from opens 0 k text) (sym (add-zero at))
+blanks_run : (opens : List Open) (at : ℕ) (text : List ℕ) (n : ℕ) → prefix_len is_blank text ≡ n → cut opens at text ≡ cut opens (at + n) (drop n text)
+blanks_run opens at text zero is = ap (λ k. cut opens k text) (sym (add-zero at))
 blanks_run opens at text (suc n) is =
-    gap_read opens (suc n) at text (omega arith) (omega (arith, is, prefix_len-le-length is_blank text))
+    cut_gap opens (suc n) at text (omega arith) (omega (arith, is, prefix_len-le-length is_blank text))
     (at_blank (innermost opens) at text (first_blank text n is) ∙ ap Gap is)
 
 -- blanks are passed over, however many
-blanks_from : (opens : List Open) (at : ℕ) (text : List ℕ) → tokens_from opens 0 at text ≡ tokens_from opens 0 (at + prefix_len is_blank text) (drop (prefix_len is_blank text) text)
+blanks_from : (opens : List Open) (at : ℕ) (text : List ℕ) → cut opens at text ≡ cut opens (at + prefix_len is_blank text) (drop (prefix_len is_blank text) text)
 blanks_from opens at text = blanks_run opens at text (prefix_len is_blank text) refl
 
-blanks_skip : (opens : List Open) (at : ℕ) (part behind : List ℕ) → list_all is_blank part ≡ true → tokens_from opens 0 at (part ++ behind) ≡ tokens_from opens 0 (at + length part) behind
+blanks_skip : (opens : List Open) (at : ℕ) (part behind : List ℕ) → list_all is_blank part ≡ true → cut opens at (part ++ behind) ≡ cut opens (at + length part) behind
 blanks_skip opens at part behind all =
     let k = prefix_len is_blank behind in
     let n = run_on is_blank part behind all in
     let far : at + (length part + k) ≡ at + length part + k = omega arith in
     blanks_from opens at (part ++ behind)
-    ∙ ap (λ j. tokens_from opens 0 (at + j) (drop j (part ++ behind))) n
-    ∙ ap (λ l. tokens_from opens 0 (at + (length part + k)) l) (drop-append-add part behind k)
-    ∙ ap (λ j. tokens_from opens 0 j (drop k behind)) far
+    ∙ ap (λ j. cut opens (at + j) (drop j (part ++ behind))) n
+    ∙ ap (λ l. cut opens (at + (length part + k)) l) (drop-append-add part behind k)
+    ∙ ap (λ j. cut opens j (drop k behind)) far
     ∙ sym (blanks_from opens (at + length part) behind)
 
 -- a piece that is a gap of these bytes is passed over
-part_read : (opens : List Open) (at : ℕ) (part behind : List ℕ) → 0 < length part → piece (innermost opens) at (part ++ behind) ≡ Gap (length part) → tokens_from opens 0 at (part ++ behind) ≡ tokens_from opens 0 (at + length part) behind
+part_read : (opens : List Open) (at : ℕ) (part behind : List ℕ) → 0 < length part → piece (innermost opens) at (part ++ behind) ≡ Gap (length part) → cut opens at (part ++ behind) ≡ cut opens (at + length part) behind
 part_read opens at part behind some is =
-    gap_read opens (length part) at (part ++ behind) some (omega (arith, length-append part behind)) is
-    ∙ ap (tokens_from opens 0 (at + length part)) (drop-append_seam part behind)
+    cut_gap opens (length part) at (part ++ behind) some (omega (arith, length-append part behind)) is
+    ∙ ap (cut opens (at + length part)) (drop-append_seam part behind)
 
 -- no long bracket reaches over a line feed
 all_get : (p : ℕ → Bool) (xs : List ℕ) (k : ℕ) → list_all p xs ≡ true → k < length xs → p (get_or xs k 0) ≡ true
@@ -130,28 +129,28 @@ long_comment_exact ob at signs body long behind is =
     ∙ ap (λ o. long_comment_of at o signs) (ap (closing_place signs) far ∙ h.1)
     ∙ ap Gap len
 
-part_skip : (opens : List Open) (at : ℕ) (part behind : List ℕ) → IsGapPart part behind → tokens_from opens 0 at (part ++ behind) ≡ tokens_from opens 0 (at + length part) behind
+part_skip : (opens : List Open) (at : ℕ) (part behind : List ℕ) → IsGapPart part behind → cut opens at (part ++ behind) ≡ cut opens (at + length part) behind
 part_skip opens at part behind (inl blanks) =
     and_at (nat_lt 0 (length part)) (list_all is_blank part) blanks (λ _ all. blanks_skip opens at part behind all)
 part_skip opens at part behind (inr (inl line)) =
-    subst (λ l. tokens_from opens 0 at (l ++ behind) ≡ tokens_from opens 0 (at + length l) behind) (sym line.1)
+    subst (λ l. cut opens at (l ++ behind) ≡ cut opens (at + length l) behind) (sym line.1)
     (part_read opens at (minus ∷ minus ∷ line.0) behind (omega arith) (line_exact (innermost opens) at line.0 behind line.2 line.3 line.4))
 part_skip opens at part behind (inr (inr h)) =
-    subst (λ l. tokens_from opens 0 at (l ++ behind) ≡ tokens_from opens 0 (at + length l) behind) (sym h.3)
+    subst (λ l. cut opens at (l ++ behind) ≡ cut opens (at + length l) behind) (sym h.3)
     (part_read opens at (minus ∷ minus ∷ h.2) behind (omega arith) (long_comment_exact (innermost opens) at h.0 h.1 h.2 behind h.4))
 
-gap_parts : (opens : List Open) (at : ℕ) (parts : List (List ℕ)) (bytes behind : List ℕ) → IsGapOf parts bytes behind → tokens_from opens 0 at (bytes ++ behind) ≡ tokens_from opens 0 (at + length bytes) behind
+gap_parts : (opens : List Open) (at : ℕ) (parts : List (List ℕ)) (bytes behind : List ℕ) → IsGapOf parts bytes behind → cut opens at (bytes ++ behind) ≡ cut opens (at + length bytes) behind
 gap_parts opens at [] bytes behind is =
-    subst (λ l. tokens_from opens 0 at (l ++ behind) ≡ tokens_from opens 0 (at + length l) behind) (sym is) (ap (λ k. tokens_from opens 0 k behind) (sym (add-zero at)))
+    subst (λ l. cut opens at (l ++ behind) ≡ cut opens (at + length l) behind) (sym is) (ap (λ k. cut opens k behind) (sym (add-zero at)))
 gap_parts opens at (part ∷ parts) bytes behind h =
     let rest = h.0 in
     let far : at + length part + length rest ≡ at + length (part ++ rest) = omega (arith, length-append part rest) in
-    subst (λ l. tokens_from opens 0 at (l ++ behind) ≡ tokens_from opens 0 (at + length l) behind) (sym h.2)
-    (ap (tokens_from opens 0 at) (append_assoc part rest behind)
+    subst (λ l. cut opens at (l ++ behind) ≡ cut opens (at + length l) behind) (sym h.2)
+    (ap (cut opens at) (append_assoc part rest behind)
     ∙ part_skip opens at part (rest ++ behind) h.1
     ∙ gap_parts opens (at + length part) parts rest behind h.3
-    ∙ ap (λ k. tokens_from opens 0 k behind) far)
+    ∙ ap (λ k. cut opens k behind) far)
 
 -- a gap is passed over
-pub gap_skip : (opens : List Open) (at : ℕ) (bytes behind : List ℕ) → IsGap bytes behind → tokens_from opens 0 at (bytes ++ behind) ≡ tokens_from opens 0 (at + length bytes) behind
+pub gap_skip : (opens : List Open) (at : ℕ) (bytes behind : List ℕ) → IsGap bytes behind → cut opens at (bytes ++ behind) ≡ cut opens (at + length bytes) behind
 gap_skip opens at bytes behind h = gap_parts opens at h.0 bytes behind h.1

@@ -12,9 +12,9 @@ use Rattle.luau_lex.specs.Braces.{braces_behind}
 use Rattle.luau_lex.specs.LongestTokens.{NoLongerToken, NoLongerWord, NoComment}
 use Rattle.luau_lex.specs.Lexed.{EndsWith, StandApart, Lawful, Lexed}
 use Rattle.luau_lex.specs.Computed.Pieces.{innermost, piece, opens_behind}
-use Rattle.luau_lex.specs.Computed.Tokens.{token_at, with_token, tokens_from, tokens_of}
+use Rattle.luau_lex.specs.Computed.Tokens.{token_at, tokens_of}
 use Rattle.luau_lex.specs.Computed.Reads.{HasTokens}
-use Rattle.luau_lex.proofs.ReadingLemmas.{tokens_skip, found_read, fault_read}
+use Rattle.luau_lex.proofs.CutLemmas.{Cut, cut_at, with_first, cut_from, answer_of, answer, cut_answers, cut, cut_skip, cut_token, cut_fault}
 use Rattle.luau_lex.proofs.ExistLemmas.{tokens_there}
 use Rattle.luau_lex.proofs.TokenLemmas.{outward, behind_is, first_of}
 use Rattle.luau_lex.proofs.ExactLemmas.{token_there}
@@ -62,41 +62,32 @@ token_is t n here ends bytes =
     ap (λ e. record { kind = t.kind; span = record { start = t.span.start; end = e }; bytes = take n here }) ends
     ∙ ap (λ l. record { kind = t.kind; span = record { start = t.span.start; end = t.span.end }; bytes = l }) (sym bytes)
 
-lawful_skip : (fault : Option LexError) (braces : List Open) (at : ℕ) (text : List ℕ) (t : Tok) (ts : List Tok) → Lawful fault braces at text (t ∷ ts) → tokens_from (outward braces) 0 at text ≡ tokens_from (outward braces) 0 t.span.start (drop (t.span.start - at) text)
+lawful_skip : (fault : Option LexError) (braces : List Open) (at : ℕ) (text : List ℕ) (t : Tok) (ts : List Tok) → Lawful fault braces at text (t ∷ ts) → cut (outward braces) at text ≡ cut (outward braces) t.span.start (drop (t.span.start - at) text)
 lawful_skip fault braces at text t ts h =
     let k = t.span.start - at in
     let opens = outward braces in
     let width = length-take-le k text (omega (arith, h.in_order.0, h.in_order.1, h.in_order.2)) in
     let far : at + length (take k text) ≡ t.span.start = omega (arith, width, h.in_order.0) in
-    ap (tokens_from opens 0 at) (sym (take-append-drop k text))
+    ap (cut opens at) (sym (take-append-drop k text))
     ∙ gap_skip opens at (take k text) (drop k text) h.apart.0
-    ∙ ap (λ j. tokens_from opens 0 j (drop k text)) far
+    ∙ ap (λ j. cut opens j (drop k text)) far
 
--- the answer that these tokens are, up to the end of the text or up to this fault
-abbrev pub answer_of : Option LexError → List Tok → Result (List Tok) LexError
-answer_of None ts = Ok ts
-answer_of (Some e) ts = Err e
-
-answer_token : (fault : Option LexError) (t : Tok) (ts : List Tok) → with_token t (answer_of fault ts) ≡ answer_of fault (t ∷ ts)
-answer_token None t ts = refl
-answer_token (Some e) t ts = refl
-
-ends_so : (fault : Option LexError) (braces : List Open) (at : ℕ) (text : List ℕ) → EndsWith fault braces at text → tokens_from (outward braces) 0 at text ≡ answer_of fault []
-ends_so None braces at text h = ap (tokens_from (outward braces) 0 at) h
+ends_so : (fault : Option LexError) (braces : List Open) (at : ℕ) (text : List ℕ) → EndsWith fault braces at text → cut (outward braces) at text ≡ cut_at [] fault
+ends_so None braces at text h = ap (cut (outward braces) at) h
 ends_so (Some e) braces at text h =
-    let there = fault_there braces at text e h in fault_read (outward braces) e at text there.0 there.1
+    let there = fault_there braces at text e h in cut_fault (outward braces) e at text there.0 there.1
 
-lawful_none : (fault : Option LexError) (braces : List Open) (at : ℕ) (text : List ℕ) → StandApart fault braces at text [] → tokens_from (outward braces) 0 at text ≡ answer_of fault []
+lawful_none : (fault : Option LexError) (braces : List Open) (at : ℕ) (text : List ℕ) → StandApart fault braces at text [] → cut (outward braces) at text ≡ cut_at [] fault
 lawful_none fault braces at text h =
     let n = h.0 in
     let opens = outward braces in
     let far : at + length (take n text) ≡ at + n = omega (arith, length-take-le n text h.1) in
-    ap (tokens_from opens 0 at) (sym (take-append-drop n text))
+    ap (cut opens at) (sym (take-append-drop n text))
     ∙ gap_skip opens at (take n text) (drop n text) h.2
-    ∙ ap (λ k. tokens_from opens 0 k (drop n text)) far
+    ∙ ap (λ k. cut opens k (drop n text)) far
     ∙ ends_so fault braces (at + n) (drop n text) h.3
 
-lawful_tokens : (fault : Option LexError) (braces : List Open) (at : ℕ) (text : List ℕ) (ts : List Tok) → Lawful fault braces at text ts → tokens_from (outward braces) 0 at text ≡ answer_of fault ts
+lawful_tokens : (fault : Option LexError) (braces : List Open) (at : ℕ) (text : List ℕ) (ts : List Tok) → Lawful fault braces at text ts → cut (outward braces) at text ≡ cut_at ts fault
 lawful_tokens fault braces at text [] h = lawful_none fault braces at text h.apart
 lawful_tokens fault braces at text (t ∷ ts) h =
     let k = t.span.start - at in
@@ -112,20 +103,28 @@ lawful_tokens fault braces at text (t ∷ ts) h =
     let opens' : opens_behind opens t.span.start t.kind (slice_index here 0) ≡ outward (braces_behind t braces) =
     ap (opens_behind opens t.span.start t.kind) first ∙ behind_is t.kind t.span.start (slice_index t.bytes 0) braces in
     lawful_skip fault braces at text t ts h
-    ∙ found_read opens t.kind n t.span.start here least some (lawful_first fault braces at text t ts h)
-    ∙ ap (λ x. with_token x (tokens_from (opens_behind opens t.span.start t.kind (slice_index here 0)) 0 (t.span.start + n) (drop n here))) (token_is t n here ends h.in_order.3)
-    ∙ ap (λ o. with_token t (tokens_from o 0 (t.span.start + n) (drop n here))) opens'
-    ∙ ap (λ j. with_token t (tokens_from (outward (braces_behind t braces)) 0 j (drop n here))) ends
-    ∙ ap (λ l. with_token t (tokens_from (outward (braces_behind t braces)) 0 t.span.end l)) behind
-    ∙ ap (with_token t) (lawful_tokens fault (braces_behind t braces) t.span.end (drop (t.span.end - at) text) ts (lawful_rest fault braces at text t ts h))
-    ∙ answer_token fault t ts
+    ∙ cut_token opens t.kind n t.span.start here least some (lawful_first fault braces at text t ts h)
+    ∙ ap (λ x. with_first x (cut (opens_behind opens t.span.start t.kind (slice_index here 0)) (t.span.start + n) (drop n here))) (token_is t n here ends h.in_order.3)
+    ∙ ap (λ o. with_first t (cut o (t.span.start + n) (drop n here))) opens'
+    ∙ ap (λ j. with_first t (cut (outward (braces_behind t braces)) j (drop n here))) ends
+    ∙ ap (λ l. with_first t (cut (outward (braces_behind t braces)) t.span.end l)) behind
+    ∙ ap (with_first t) (lawful_tokens fault (braces_behind t braces) t.span.end (drop (t.span.end - at) text) ts (lawful_rest fault braces at text t ts h))
 
 -- what meets the laws is what is computed
+laws_cut : (text : List ℕ) (ts : List Tok) (fault : Option LexError) → Lexed text ts fault → cut_from [] (first_line_len text) 0 text ≡ cut_at ts fault
+laws_cut text ts fault h =
+    let n = first_line_len text in
+    cut_skip [] n 0 text ∙ ap (λ k. cut [] k (drop n text)) (zero-add n) ∙ lawful_tokens fault [] n (drop n text) ts h
+
 pub laws_determine : (text : List ℕ) (ts : List Tok) (fault : Option LexError) → Lexed text ts fault → tokens_of text ≡ answer_of fault ts
 unfolding tokens_of
-laws_determine text ts fault h =
-    let n = first_line_len text in
-    tokens_skip [] n 0 text ∙ ap (λ k. tokens_from [] 0 k (drop n text)) (zero-add n) ∙ lawful_tokens fault [] n (drop n text) ts h
+laws_determine text ts fault h = cut_answers [] (first_line_len text) 0 text ∙ ap answer (laws_cut text ts fault h)
+
+-- a text has tokens in one way
+pub one_way : (text : List ℕ) (ts us : List Tok) (d e : Option LexError) → Lexed text ts d → Lexed text us e → (ts ≡ us) × (d ≡ e)
+one_way text ts us d e h g =
+    let same : cut_at ts d ≡ cut_at us e = sym (laws_cut text ts d h) ∙ laws_cut text us e g in
+    (ap (λ c. c.tokens) same, ap (λ c. c.fault) same)
 
 -- and what is computed meets the laws
 pub tokens_are_lexed : (text : List ℕ) (ts : List Tok) → tokens_of text ≡ Ok ts → Lexed text ts None
@@ -133,24 +132,6 @@ tokens_are_lexed text ts is = tokens_lawful text ts (subst (HasTokens text) is (
 
 pub fault_is_lexed : (text : List ℕ) (e : LexError) → tokens_of text ≡ Err e → (ts : List Tok) × Lexed text ts (Some e)
 fault_is_lexed text e is = fault_lawful text e (subst (HasTokens text) is (tokens_there text))
-
-same_tokens : (ts us : List Tok) → ◌≡◌ {A = Result (List Tok) LexError} (Ok ts) (Ok us) → ts ≡ us
-same_tokens ts us is = cc
-
-same_fault : (d e : LexError) → ◌≡◌ {A = Result (List Tok) LexError} (Err d) (Err e) → d ≡ e
-same_fault d e is = cc
-
-no_both : (ts : List Tok) (e : LexError) → ◌≡◌ {A = Result (List Tok) LexError} (Ok ts) (Err e) → ⊥
-no_both ts e is = cc
-
-pub one_list : (text : List ℕ) (ts us : List Tok) → Lexed text ts None → Lexed text us None → ts ≡ us
-one_list text ts us h g = same_tokens ts us (sym (laws_determine text ts None h) ∙ laws_determine text us None g)
-
-pub one_fault : (text : List ℕ) (ts us : List Tok) (d e : LexError) → Lexed text ts (Some d) → Lexed text us (Some e) → d ≡ e
-one_fault text ts us d e h g = same_fault d e (sym (laws_determine text ts (Some d) h) ∙ laws_determine text us (Some e) g)
-
-pub one_of_both : (text : List ℕ) (ts us : List Tok) (e : LexError) → Lexed text ts None → Lexed text us (Some e) → ⊥
-one_of_both text ts us e h g = no_both ts e (sym (laws_determine text ts None h) ∙ laws_determine text us (Some e) g)
 
 some_lexed : (text : List ℕ) (r : Result (List Tok) LexError) → tokens_of text ≡ r → (ts : List Tok) × (fault : Option LexError) × Lexed text ts fault
 some_lexed text (Ok ts) is = (ts, None, tokens_are_lexed text ts is)

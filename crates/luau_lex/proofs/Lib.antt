@@ -1,5 +1,6 @@
 pub mod BracketLemmas
 pub mod ClearLemmas
+pub mod CutLemmas
 pub mod DeterminedLemmas
 pub mod ExactLemmas
 pub mod ExistLemmas

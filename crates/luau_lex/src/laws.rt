@@ -16,17 +16,12 @@ ghost use Rattle.luau_lex.specs.Values.{is_string, StandsFor};
 ghost use Rattle.luau_lex.specs.Computed.Tokens.{tokens_of};
 ghost use Rattle.luau_lex.specs.Computed.Values.{string_value};
 
-/// Each text has tokens up to its end, or up to its first fault, and not both. It has one list of
-/// tokens, or one first fault.
+/// Each text has tokens up to its end or up to its first fault, and has them in one way.
 pub fn each_text_is_lexed_in_one_way()
     ensures some { (text : List ℕ) →
         (ts : List Tok) × (fault : Option LexError) × Lexed text ts fault }
-    ensures tokens { (text : List ℕ) (ts us : List Tok) →
-        Lexed text ts None → Lexed text us None → ts ≡ us }
-    ensures fault { (text : List ℕ) (ts us : List Tok) (d e : LexError) →
-        Lexed text ts (Some d) → Lexed text us (Some e) → d ≡ e }
-    ensures not_both { (text : List ℕ) (ts us : List Tok) (e : LexError) →
-        Lexed text ts None → Lexed text us (Some e) → ⊥ }
+    ensures one { (text : List ℕ) (ts us : List Tok) (d e : Option LexError) →
+        Lexed text ts d → Lexed text us e → (ts ≡ us) × (d ≡ e) }
 {}
 
 /// The laws determine the tokens: what meets them is what `tokens_of` computes, and the other way.
