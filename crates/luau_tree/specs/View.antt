@@ -21,55 +21,55 @@ use Rattle.luau_tree.specs.Tree.{Block, Stat, StatKind, Arms, MaybeBlock, Expr, 
 use Rattle.luau_tree.specs.Tree as plain
 
 -- a layer of the tree, with plain parts
-abbrev stats : List Stat → Block
+abbrev pub stats : List Stat → Block
 stats [] = plain.no_stats
 stats (x ∷ xs) = plain.more_stats x (stats xs)
 
-abbrev exprs : List Expr → Exprs
+abbrev pub exprs : List Expr → Exprs
 exprs [] = plain.no_exprs
 exprs (x ∷ xs) = plain.more_exprs x (exprs xs)
 
-abbrev items : List Item → Items
+abbrev pub items : List Item → Items
 items [] = plain.no_items
 items (x ∷ xs) = plain.more_items x (items xs)
 
-abbrev binds : List Bind → Binds
+abbrev pub binds : List Bind → Binds
 binds [] = plain.no_binds
 binds (x ∷ xs) = plain.more_binds x (binds xs)
 
-abbrev gens : List Gen → Gens
+abbrev pub gens : List Gen → Gens
 gens [] = plain.no_gens
 gens (x ∷ xs) = plain.more_gens x (gens xs)
 
-abbrev types : List TypeSyntax → TypeSyntaxes
+abbrev pub types : List TypeSyntax → TypeSyntaxes
 types [] = plain.no_types
 types (x ∷ xs) = plain.more_types x (types xs)
 
-abbrev props : List Prop → Props
+abbrev pub props : List Prop → Props
 props [] = plain.no_props
 props (x ∷ xs) = plain.more_props x (props xs)
 
-abbrev arms : List (Expr × Block) → Arms
+abbrev pub arms : List (Expr × Block) → Arms
 arms [] = plain.no_arms
 arms (x ∷ xs) = plain.more_arms x.0 x.1 (arms xs)
 
-abbrev choices : List (Expr × Expr) → Choices
+abbrev pub choices : List (Expr × Expr) → Choices
 choices [] = plain.no_choices
 choices (x ∷ xs) = plain.more_choices x.0 x.1 (choices xs)
 
-abbrev maybe_block : Option Block → MaybeBlock
+abbrev pub maybe_block : Option Block → MaybeBlock
 maybe_block None = plain.no_block
 maybe_block (Some x) = plain.a_block x
 
-abbrev maybe_expr : Option Expr → MaybeExpr
+abbrev pub maybe_expr : Option Expr → MaybeExpr
 maybe_expr None = plain.no_expr
 maybe_expr (Some x) = plain.an_expr x
 
-abbrev maybe_type : Option TypeSyntax → MaybeType
+abbrev pub maybe_type : Option TypeSyntax → MaybeType
 maybe_type None = plain.no_type
 maybe_type (Some x) = plain.a_type x
 
-abbrev varargs_of : Option (Option TypeSyntax) → Varargs
+abbrev pub varargs_of : Option (Option TypeSyntax) → Varargs
 varargs_of None = plain.no_varargs
 varargs_of (Some x) = plain.varargs (maybe_type x)
 
