@@ -1,0 +1,21 @@
+-- What the code's places and results are, seen as plain data.
+use Rattle.std.specs.Prelude.{◌≡◌, ◌≢◌, ℕ, List, map, Option, Result, Ok, Err, ◌≤◌, length}
+use Rattle.luau_lex.specs.Tokens.{seen_token}
+use Rattle.luau_lex.specs.declared.token.Token.{Token}
+use Rattle.luau_parse.specs.declared.error.ParseError.{ParseError}
+use Rattle.luau_parse.specs.declared.error.ParseError.TheVariants.{NoMemory}
+use Rattle.luau_parse.specs.declared.tokens.Tokens.{Tokens}
+use Rattle.luau_parse.specs.Places.{Place}
+use Rattle.luau_parse.specs.Reading.{Outcome}
+
+abbrev pub place_of : Tokens → Place
+place_of t = record { ahead = map seen_token t.ahead.now; last = t.last; level = t.level }
+
+-- What a function answered, seen by a view, and where it stands then, is what a parser gives, unless memory ran out.
+abbrev pub Reads : {A B : Type 0} → (A → B) → Outcome B → Result A ParseError → Tokens → Type 0
+Reads view outcome (Ok x) new = outcome ≡ Ok (view x, place_of new)
+Reads view outcome (Err e) new = e ≢ NoMemory → outcome ≡ Err e
+
+-- a value that is seen as it is
+abbrev pub itself : {A : Type 0} → A → A
+itself x = x
