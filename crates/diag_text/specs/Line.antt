@@ -5,8 +5,7 @@ use Rattle.std.specs.Ordering.{nat_cmp, on, then_cmp}
 use Rattle.diag_text.specs.declared.line.Line.{Line}
 use Rattle.diag_text.specs.declared.line.LineKind.{LineKind}
 use Rattle.diag_text.specs.declared.line.LineKind.TheVariants.{Refused, Skipped, Argument, Missing, Operand, Value, Parameter}
-use Rattle.luau_tree.specs.Sorted.{sorted_by}
-pub use Rattle.luau_tree.specs.Sorted.{bytes_cmp}
+use Rattle.luau_tree.specs.Sorted.{bytes_cmp, sorted_by}
 
 -- a byte as a text line shows it: a control character, which is below 32 or 127, as `?`
 abbrev pub printable_byte : ℕ → ℕ

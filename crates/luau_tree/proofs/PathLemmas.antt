@@ -1,7 +1,7 @@
 -- What a binary search among ascending paths tells.
-use Rattle.std.proofs.Common.{◌≡◌, ◌<◌, ◌+◌, ℕ, true, List, get_or, length, Contains, Result, Ok, Err, is_ok, inl, inr, arith, refl, ap, sym, ◌∙◌}
+use Rattle.std.proofs.Common.{◌≡◌, ◌+◌, ℕ, true, List, get_or, length, Contains, Result, Ok, Err, is_ok, inl, inr, arith, refl, ap, sym, ◌∙◌}
 use mathlib.Core.Bool.{true≢false}
-use Rattle.std.specs.declared.cmp.Ordering.TheVariants.{Less, Equal, Greater}
+use Rattle.std.specs.declared.cmp.Ordering.TheVariants.{Less, Greater}
 use Rattle.std.specs.Ordering.{is_eq, is_lt, ordering_reverse}
 use Rattle.std.specs.Cmp.{tied_itself}
 use Rattle.std.specs.Cmp.Lexicographic.{nat_list_cmp_total}

@@ -1,6 +1,6 @@
 -- The nodes that a tree holds, in the order of the text: its expressions, the bodies of its functions, and the names
 -- that it declares. What stands within a node comes behind it, and what stands in a written type comes at its place.
-use Rattle.std.specs.Prelude.{◌==◌, ℕ, List, [], ◌∷◌, ◌++◌, Option, Some, None, option_map}
+use Rattle.std.specs.Prelude.{◌==◌, ℕ, List, [], ◌∷◌, ◌++◌, Option, None, option_map}
 use Rattle.std.specs.List.{find}
 use Rattle.luau_tree.specs.declared.names.Place.{Place}
 use Rattle.luau_tree.specs.declared.names.Place.TheVariants.{Expr as ExprPlace, Param as ParamPlace}

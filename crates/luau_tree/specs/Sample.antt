@@ -1,13 +1,13 @@
 -- A tree that has each form of syntax with several parts, to try definitions of trees on. Each expression has the number
 -- that the order of the text gives it, and each declared name is the one byte of its number.
-use Rattle.std.specs.Prelude.{ℕ, List, [], ◌∷◌, None, false, true}
+use Rattle.std.specs.Prelude.{ℕ, [], ◌∷◌, None, false, true}
 use Rattle.luau_tree.specs.declared.names.Access.TheVariants.{Both}
 use Rattle.luau_tree.specs.declared.names.BinOp.TheVariants.{Add}
 use Rattle.luau_tree.specs.declared.names.UnOp.TheVariants.{Minus}
 use Rattle.luau_tree.specs.declared.position.Span.{Span}
 use Rattle.luau_tree.specs.Tree.{Block, no_stats, more_stats, Stat, the_stat, StatKind, Assign, Compound, CallStat, Do, While, Repeat, If, NumFor, GenFor, FunctionStat, LocalFunction, Local, TypeAlias, TypeFunction, Return, no_arms, more_arms, a_block}
 use Rattle.luau_tree.specs.Tree.{Expr, the_expr, Exprs, no_exprs, more_exprs, an_expr, ExprKind, FunctionExpr, NameExpr, Index, At, Call, Method, Paren, Unary, Binary, IfElse, TableExpr, Interp, Assert, no_choices, more_choices, Field, Keyed, Plain, no_items, more_items}
-use Rattle.luau_tree.specs.Tree.{Body, the_body, varargs, no_varargs, Bind, the_bind, Binds, no_binds, more_binds, Gen, the_gen, Gens, no_gens, more_gens}
+use Rattle.luau_tree.specs.Tree.{Body, the_body, varargs, no_varargs, Bind, the_bind, no_binds, more_binds, the_gen, Gens, no_gens, more_gens}
 use Rattle.luau_tree.specs.Tree.{TypeSyntax, the_type, no_types, more_types, MaybeType, no_type, a_type, TypeKind, Named, Typeof, Array, TableType, Func, Union, Meet, Optional, Pack, Variadic, the_prop, no_props, more_props, NameKey, Indexer}
 
 abbrev somewhere : Span

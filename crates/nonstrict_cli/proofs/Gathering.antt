@@ -10,7 +10,7 @@ use Rattle.std.specs.List.{AllByRecursion}
 use Rattle.std.proofs.lemmas.Bool.{lt-ltb, le-ltb}
 use Rattle.std.proofs.lemmas.List.{drop_more}
 use Rattle.diag_text.specs.declared.line.Line.{Line}
-use Rattle.diag_text.specs.Line.{bytes_cmp}
+use Rattle.luau_tree.specs.Sorted.{bytes_cmp}
 use Rattle.outside.specs.Contents.{Contents, File, file_at, paths_of}
 use Rattle.nonstrict_cli.specs.declared.limits.TheConstants.{MAX_FILES, MAX_TOTAL}
 use Rattle.nonstrict_cli.specs.declared.status.Limit.{Limit}

@@ -11,7 +11,7 @@ use Rattle.std.proofs.lemmas.Bool.Decides.{leb_tells}
 use Rattle.std.proofs.lemmas.List.Folds.{Any-from_list_any, list_any_at}
 use Rattle.std.proofs.lemmas.Map.Text.{is_eq-slice_cmp}
 use Rattle.std.proofs.lemmas.List.Sorted.{searchable_from_sorted}
-use Rattle.diag_text.specs.Line.{bytes_cmp}
+use Rattle.luau_tree.specs.Sorted.{bytes_cmp}
 
 -- an element that is equal in the order is there
 present : (xs : List (List ℕ)) (x : List ℕ) (i : ℕ) → i < length xs → ((d : List ℕ) → bytes_cmp (get_or xs i d) x ≡ Equal) → true ≡ list_any (λ y. bytes_eq y x) xs

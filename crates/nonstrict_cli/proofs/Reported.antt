@@ -5,13 +5,12 @@ use Rattle.std.specs.List.{find}
 use Rattle.std.proofs.lemmas.Bool.{ne_eqb}
 use Rattle.luau_tree.specs.declared.names.Place.{Place}
 use Rattle.luau_tree.specs.declared.position.Span.{Span}
+use Rattle.luau_tree.specs.Nodes.{expr_number, expr_span, expr_start, exprs_in, span_at}
 use Rattle.luau_tree.specs.Tree.{Block, more_stats, Expr}
-use Rattle.luau_run.specs.SyntaxNode.{of_block}
 use Rattle.rules_certain.specs.Literal.{Literal, NilLiteral, TruthLiteral, NumberLiteral, StrLiteral, is_number}
 use Rattle.rules_certain.specs.Calls.{Written, stat_of, block_of, after_call}
 use Rattle.rules_certain.specs.Reports.{place, argument_of, reports_in}
 use Rattle.nonstrict_cli.specs.Form.{offsets_of, offsets_at}
-use Rattle.nonstrict_cli.specs.Reported.{expr_start, exprs_in, number_of, span_of, span_at}
 
 -- a call with another literal
 abbrev with_literal : Written → Literal → Written
@@ -21,7 +20,7 @@ with_literal w l = record { literal = l; call = w.call; callee = w.callee; libra
 abbrev first_of : {A : Type 0} → Bool → Bool → Bool → Bool → A → A → A → A → Option A → Option A
 first_of b c d e w x y z later = cond b (Some w) (cond c (Some x) (cond d (Some y) (cond e (Some z) later)))
 
-spans_of_four : (b c d e : Bool) (w x y z : Expr) (later : Option Expr) → option_map span_of (first_of b c d e w x y z later) ≡ first_of b c d e (span_of w) (span_of x) (span_of y) (span_of z) (option_map span_of later)
+spans_of_four : (b c d e : Bool) (w x y z : Expr) (later : Option Expr) → option_map expr_span (first_of b c d e w x y z later) ≡ first_of b c d e (expr_span w) (expr_span x) (expr_span y) (expr_span z) (option_map expr_span later)
 spans_of_four true c d e w x y z later = refl
 spans_of_four false true d e w x y z later = refl
 spans_of_four false false true e w x y z later = refl
@@ -31,11 +30,11 @@ spans_of_four false false false false w x y z later = refl
 -- where an expression of a call's statement stands, or one behind it
 span_in_call : (n first : ℕ) (w : Written) (l : Literal) (rest : Block) → span_at (more_stats (stat_of first (with_literal w l)) rest) n
     ≡ first_of (first == n) (suc first == n) (suc (suc first) == n) (suc (suc (suc first)) == n) w.call w.callee w.library w.argument (span_at rest n)
-span_in_call n first w NilLiteral rest = spans_of_four (first == n) (suc first == n) (suc (suc first) == n) (suc (suc (suc first)) == n) _ _ _ _ (find (λ e. number_of e == n) (exprs_in (of_block rest)))
-span_in_call n first w (TruthLiteral true) rest = spans_of_four (first == n) (suc first == n) (suc (suc first) == n) (suc (suc (suc first)) == n) _ _ _ _ (find (λ e. number_of e == n) (exprs_in (of_block rest)))
-span_in_call n first w (TruthLiteral false) rest = spans_of_four (first == n) (suc first == n) (suc (suc first) == n) (suc (suc (suc first)) == n) _ _ _ _ (find (λ e. number_of e == n) (exprs_in (of_block rest)))
-span_in_call n first w (NumberLiteral text) rest = spans_of_four (first == n) (suc first == n) (suc (suc first) == n) (suc (suc (suc first)) == n) _ _ _ _ (find (λ e. number_of e == n) (exprs_in (of_block rest)))
-span_in_call n first w (StrLiteral bytes) rest = spans_of_four (first == n) (suc first == n) (suc (suc first) == n) (suc (suc (suc first)) == n) _ _ _ _ (find (λ e. number_of e == n) (exprs_in (of_block rest)))
+span_in_call n first w NilLiteral rest = spans_of_four (first == n) (suc first == n) (suc (suc first) == n) (suc (suc (suc first)) == n) _ _ _ _ (find (λ e. expr_number e == n) (exprs_in rest))
+span_in_call n first w (TruthLiteral true) rest = spans_of_four (first == n) (suc first == n) (suc (suc first) == n) (suc (suc (suc first)) == n) _ _ _ _ (find (λ e. expr_number e == n) (exprs_in rest))
+span_in_call n first w (TruthLiteral false) rest = spans_of_four (first == n) (suc first == n) (suc (suc first) == n) (suc (suc (suc first)) == n) _ _ _ _ (find (λ e. expr_number e == n) (exprs_in rest))
+span_in_call n first w (NumberLiteral text) rest = spans_of_four (first == n) (suc first == n) (suc (suc first) == n) (suc (suc (suc first)) == n) _ _ _ _ (find (λ e. expr_number e == n) (exprs_in rest))
+span_in_call n first w (StrLiteral bytes) rest = spans_of_four (first == n) (suc first == n) (suc (suc first) == n) (suc (suc (suc first)) == n) _ _ _ _ (find (λ e. expr_number e == n) (exprs_in rest))
 
 same : (n : ℕ) → (n == n) ≡ true
 same n = grind (arith, nat_tests)

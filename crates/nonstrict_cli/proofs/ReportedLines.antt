@@ -11,7 +11,8 @@ use Rattle.rules_certain.specs.Reports.{argument_of, reports_in, reports_from, r
 use Rattle.nonstrict_cli.specs.Certainty.{Checked, calls_unless, checked_as, checked_at, checked_modules}
 use Rattle.nonstrict_cli.specs.Folder.{argument_line, lines_of_file, module_paths, refusal_of, source, text_behind_mark}
 use Rattle.nonstrict_cli.specs.Form.{offsets_of}
-use Rattle.nonstrict_cli.specs.Reported.{expr_start, line_of_report, failures_in, LinesAreReports}
+use Rattle.luau_tree.specs.Nodes.{expr_start}
+use Rattle.nonstrict_cli.specs.Reported.{line_of_report, failures_in, LinesAreReports}
 use Rattle.nonstrict_cli.proofs.Reported.{starts_of_reports}
 use Rattle.nonstrict_cli.proofs.ReportLines.{checked_lines, refused_line}
 

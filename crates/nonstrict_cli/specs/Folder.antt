@@ -7,8 +7,8 @@ use Rattle.luau_tree.specs.declared.position.TheConstants.{MAX_TEXT}
 use Rattle.luau_tree.specs.Position.{pos_at}
 use Rattle.diag_text.specs.declared.line.Line.{Line}
 use Rattle.diag_text.specs.declared.line.LineKind.TheVariants.{Refused, Argument}
-use Rattle.diag_text.specs.Line.{bytes_cmp, sorted_lines}
-use Rattle.diag_text.specs.Sorted.{sorted_by}
+use Rattle.diag_text.specs.Line.{sorted_lines}
+use Rattle.luau_tree.specs.Sorted.{bytes_cmp, sorted_by}
 use Rattle.outside.specs.Contents.{File, file_at, paths_of}
 use Rattle.nonstrict_cli.specs.declared.status.Limit.{Limit}
 use Rattle.nonstrict_cli.specs.declared.status.Limit.TheVariants.{Files, Bytes}

@@ -2,7 +2,7 @@
 ghost use Rattle.std.specs.Prelude.{◌≡◌, ◌≤◌, ◌++◌, IfNone, IfOk, OnOk, length, map, option_copied};
 ghost use Rattle.std.specs.List.Sorted.{IsSorted};
 ghost use Rattle.luau_tree.specs.Position.{pos_at};
-ghost use Rattle.diag_text.specs.Line.{bytes_cmp};
+ghost use Rattle.luau_tree.specs.Sorted.{bytes_cmp};
 ghost use Rattle.luau_lex.specs.Tokens.{seen_token};
 ghost use Rattle.nonstrict_cli.specs.Fault.{place_of, reason_of};
 ghost use Rattle.nonstrict_cli.specs.Form.{faults_in};

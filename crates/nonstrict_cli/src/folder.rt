@@ -1,7 +1,7 @@
 //! Reads the modules of a folder and gathers their lines.
 ghost use Rattle.std.specs.Prelude.{◌≡◌, ◌≢◌, ◌+◌, ◌<◌, ◌≤◌, ◌++◌, ℕ, None, Some, IfOk, IfSome, IsSome, OnOk, length};
 ghost use Rattle.std.specs.List.Sorted.{IsSorted};
-ghost use Rattle.diag_text.specs.Line.{bytes_cmp};
+ghost use Rattle.luau_tree.specs.Sorted.{bytes_cmp};
 ghost use Rattle.outside.specs.Cause.{Rose};
 ghost use Rattle.outside.specs.Contents.{file_at};
 ghost use Rattle.nonstrict_cli.specs.declared.status.Limit.{Limit};

@@ -3,11 +3,10 @@ ghost use Rattle.std.specs.Prelude.{◌≡◌, IfOk, filter, map, string_bytes};
 ghost use Rattle.std.specs.List.{list_any};
 ghost use Rattle.std.specs.List.Sorted.{IsSorted};
 ghost use Rattle.std.specs.Str.{bytes_eq};
-ghost use Rattle.diag_text.specs.Line.{bytes_cmp};
+ghost use Rattle.luau_tree.specs.Sorted.{bytes_cmp};
 ghost use Rattle.nonstrict_cli.specs.Folder.{is_init, is_module_path, modules_among, twin_of};
 
-use diag_text::sort_once;
-use luau_tree::{Bytes, Text};
+use luau_tree::{Bytes, Text, sort_once};
 use std::alloc::{AllocError, Global};
 
 /// Whether a path is that of a module.

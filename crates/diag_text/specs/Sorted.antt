@@ -1,2 +1,0 @@
--- Values in order, as `luau_tree` has them.
-pub use Rattle.luau_tree.specs.Sorted.{sorted_by}
