@@ -3,4 +3,4 @@ pub use Rattle.luau_values.proofs.HeapFacts.{later_refl, later_trans, stays, fro
 pub use Rattle.luau_values.proofs.StartFacts.{start_length, start_frozen, start_fields}
 pub use Rattle.luau_values.proofs.OrderFacts.{libraries_rise, libraries_are}
 pub use Rattle.luau_values.proofs.GrowsFacts.{grows_refl, grows_trans, extends_grows, grows_later, table_grows, freeze_grows, fill_grows, grown_fields, grown_marks}
-pub use Rattle.luau_values.proofs.StandsFacts.{stands_later, start_stands, table_stands, write_stands, freeze_stands}
+pub use Rattle.luau_values.proofs.StandsFacts.{stands_later, new_stands, start_stands, table_stands, write_stands, freeze_stands}

@@ -5,7 +5,7 @@ use Rattle.luau_values.specs.Heap.{Field, Heap, value_of, field_of, with_table, 
 use Rattle.luau_values.specs.Start.{start_heap}
 use Rattle.luau_values.specs.Later.{Later}
 use Rattle.luau_values.specs.Stands.{Stands, FieldsStand}
-use Rattle.luau_values.proofs.HeapFacts.{no_fewer, freeze_reads, freeze_later, table_later, write_adds_none, written_reads}
+use Rattle.luau_values.proofs.HeapFacts.{no_fewer, freeze_reads, freeze_later, table_later, write_adds_none, table_adds_one, written_reads}
 use Rattle.luau_values.proofs.StartFacts.{start_reads}
 
 -- where there are no fewer tables, what stood stands
@@ -56,3 +56,6 @@ write_stands h a name value old new b other =
 pub freeze_stands : (h : Heap) (a : ℕ) → FieldsStand h → FieldsStand (with_frozen a h)
 freeze_stands h a old b name =
     rw (freeze_reads h a b name) (stands_later h (with_frozen a h) (field_of h b name) (freeze_later h a) (old b name))
+
+pub new_stands : (h : Heap) (fields : List Field) → Stands (with_table fields h) (Tab (length h))
+new_stands h fields = rw (table_adds_one h fields) (omega arith)

@@ -1,10 +1,11 @@
 //! What holds of heaps that grow: by new tables, and by freezing.
 
-ghost use Rattle.std.specs.Prelude.{◌≡◌, ℕ, ◌<◌, ◌≤◌, List, length, IsTrue};
-ghost use Rattle.luau_values.specs.Value.{Value};
+ghost use Rattle.std.specs.Prelude.{◌≡◌, ℕ, ◌≤◌, List, length, IsTrue};
+ghost use Rattle.luau_values.specs.Value.{Value, Tab};
 ghost use Rattle.luau_values.specs.Heap.{Field, Heap, is_frozen, field_of, with_table, with_field, with_frozen};
 ghost use Rattle.luau_values.specs.Later.{Later, Extends};
 ghost use Rattle.luau_values.specs.Grows.{Grows};
+ghost use Rattle.luau_values.specs.Stands.{Stands};
 
 /// A heap grows to itself.
 #[tactic(auto, using(crate::proofs::GrowsFacts::grows_refl))]
@@ -40,10 +41,10 @@ pub fn changes_that_grow()
         → Grows h (with_field a name value g) }
 {}
 
-/// In a grown heap each table that was there reads as before, and is frozen where it was.
+/// In a grown heap each table that stood reads as before, and is frozen where it was.
 #[tactic(auto, using(crate::proofs::GrowsFacts::grown_fields, crate::proofs::GrowsFacts::grown_marks))]
 pub fn reads_after_growth()
-    ensures fields { (h g : Heap) (a : ℕ) (name : List ℕ) → Grows h g → a < length h
+    ensures fields { (h g : Heap) (a : ℕ) (name : List ℕ) → Grows h g → Stands h (Tab a)
         → field_of g a name ≡ field_of h a name }
     ensures marks { (h g : Heap) (a : ℕ) → Grows h g → IsTrue (is_frozen h a)
         → IsTrue (is_frozen g a) }

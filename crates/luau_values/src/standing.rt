@@ -1,7 +1,7 @@
 //! What holds of values that stand in a heap.
 
-ghost use Rattle.std.specs.Prelude.{ℕ, List};
-ghost use Rattle.luau_values.specs.Value.{Value};
+ghost use Rattle.std.specs.Prelude.{ℕ, List, length};
+ghost use Rattle.luau_values.specs.Value.{Value, Tab};
 ghost use Rattle.luau_values.specs.Heap.{Field, Heap, value_of, with_table, with_field, with_frozen};
 ghost use Rattle.luau_values.specs.Start.{start_heap};
 ghost use Rattle.luau_values.specs.Later.{Later};
@@ -11,6 +11,12 @@ ghost use Rattle.luau_values.specs.Stands.{Stands, FieldsStand};
 #[tactic(auto, using(crate::proofs::StandsFacts::stands_later))]
 pub fn standing_stays()
     ensures { (h g : Heap) (v : Value) → Later h g → Stands h v → Stands g v }
+{}
+
+/// A table that is made stands from then on.
+#[tactic(auto, using(crate::proofs::StandsFacts::new_stands))]
+pub fn new_table_is_standing()
+    ensures { (h : Heap) (fields : List Field) → Stands (with_table fields h) (Tab (length h)) }
 {}
 
 /// What stands in tables stands at the start of a run, and after each change: by a table whose

@@ -111,6 +111,10 @@ off_library = of_math (returning (e 0 (Index math (codes "none")) ∷ []))
 abbrev pub element_off_library : Program
 element_off_library = of_math (returning (e 0 (At math (e 3 (StrExpr (codes "none")))) ∷ []))
 
+-- `return math["abs"]`
+abbrev pub declared_off_library : Program
+declared_off_library = of_math (returning (e 0 (At math (e 3 (StrExpr (codes "abs")))) ∷ []))
+
 -- `return math["no" .. "ne"]`
 abbrev pub computed_off_library : Program
 computed_off_library =

@@ -7,7 +7,7 @@ ghost use Rattle.luau_tree.specs.declared.names.Place.TheVariants.{Expr as ExprP
 ghost use Rattle.luau_run.specs.Machine.{One, Turn, Stop, Does, Catches, Done, Reach, Leave};
 ghost use Rattle.luau_run.specs.runs.Outcome.{Failure, Unfinished, reached, gives, ends};
 ghost use Rattle.luau_run.specs.Run.{trace};
-ghost use Rattle.luau_run.specs.runs.Modules.{assigned_by_closure, field_written, counted, broken_off, required, caught_failure, failing, annotated_call, off_library, element_off_library, computed_off_library, method_off_library, compound_off_library, compound_off_local, off_table};
+ghost use Rattle.luau_run.specs.runs.Modules.{assigned_by_closure, field_written, counted, broken_off, required, caught_failure, failing, annotated_call, off_library, element_off_library, declared_off_library, computed_off_library, method_off_library, compound_off_library, compound_off_local, off_table};
 
 /// What modules return, with enough steps and the answers that they ask for.
 pub fn modules_that_return()
@@ -24,12 +24,14 @@ pub fn modules_that_return()
 {}
 
 /// A name that no library declares, read straight off the library's name: in every form it is any
-/// value, and the tape says which. Read off a local that holds the library's table it is nil.
+/// value, and the tape says which. A declared one is the builtin, and asks for nothing. Read off a local
+/// that holds the library's table, what is not declared is nil.
 pub fn names_off_a_library()
     ensures field { gives off_library 50 (One (Num (codes "3")) ∷ []) ≡ Some (Num (codes "3") ∷ []) }
     ensures key { gives element_off_library 50 (One (Num (codes "3")) ∷ []) ≡ Some (Num (codes "3") ∷ []) }
     ensures computed_key { gives computed_off_library 50 (One (Str (codes "none")) ∷ One (Num (codes "3")) ∷ [])
         ≡ Some (Num (codes "3") ∷ []) }
+    ensures declared { gives declared_off_library 50 [] ≡ Some (Builtin (codes "math.abs") ∷ []) }
     ensures method { gives method_off_library 50 (One (Builtin (codes "pcall")) ∷ Done (Num (codes "3") ∷ []) ∷ [])
         ≡ Some (Num (codes "3") ∷ []) }
     ensures compound { ends compound_off_library 50 [] ≡ Unfinished }

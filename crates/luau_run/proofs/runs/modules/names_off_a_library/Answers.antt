@@ -13,6 +13,7 @@ returns c = record {
   field = refl;
   key = refl;
   computed_key = refl;
+  declared = refl;
   method = refl;
   compound = refl;
   compound_writes = refl;
