@@ -1,3 +1,4 @@
 pub mod Place
 pub mod Moved
 pub mod Visible
+pub mod Met

@@ -6,8 +6,8 @@ abbrev pub join : List ℕ → List ℕ → List ℕ
 join [] name = name
 join (byte ∷ folder) name = byte ∷ folder ++ 47 ∷ name
 
--- where a path of a root lies: the root without a name is the folder in which the program runs, and the path without
--- a name is the root itself
+-- where a path of a root lies: the root without a name is the folder in which the program runs, and
+-- the path without a name is the root itself
 abbrev pub place : List ℕ → List ℕ → List ℕ
 place [] [] = codes "."
 place (byte ∷ root) [] = byte ∷ root

@@ -8,7 +8,8 @@ abbrev pub is_hidden : List ℕ → Bool
 is_hidden [] = false
 is_hidden (byte ∷ name) = byte == 46
 
--- whether no name that begins in the rest of a path begins with `.`; a name may begin at its front, and does after `/`
+-- whether no name that begins in the rest of a path begins with `.`; a name may begin at its front,
+-- and does after `/`
 abbrev pub shows_from : Bool → List ℕ → Bool
 shows_from begins [] = true
 shows_from begins (byte ∷ rest) = not (begins && byte == 46) && shows_from (byte == 47) rest
@@ -23,9 +24,11 @@ IsName name = (i : ℕ) → i < length name → slice_index name i ≢ 47
 
 -- no folder on the way to the file has a name that begins with `.`
 abbrev pub IsVisible : List ℕ → Type 0
-IsVisible path = (folder : List ℕ) × (name : List ℕ) × (path ≡ join folder name) × IsShown folder × IsName name
+IsVisible path =
+    (folder : List ℕ) × (name : List ℕ) × (path ≡ join folder name) × IsShown folder × IsName name
 
--- a walk has found visible files alone, and is to enter no folder that lies in a hidden one or is one
+-- a walk has found visible files alone, and is to enter no folder that lies in a hidden one or is
+-- one
 pub record StaysVisible (walk : Walk) : Type 0 where
   pub pending : All (λ folder. IsShown (string_bytes folder)) walk.pending.items
   pub found : All (λ path. IsVisible (string_bytes path)) walk.found.items

@@ -1,7 +1,8 @@
-//! `luau-nonstrict FOLDER`: reports the code of a folder of Luau modules that is certain to fail once it is reached.
+//! `luau-nonstrict FOLDER`: reports the code of a folder of Luau modules that is certain to fail
+//! once it is reached.
 #![tactic(auto)]
 
-mod faults;
+mod fault_count;
 mod folder_tree;
 mod front;
 mod place;
@@ -31,7 +32,7 @@ fn run<R: Env + Files + Print + AllocGlobal>(rt: &R) -> Status {
     match words(rt) {
         Ok(words) => {
             let mut tree = FolderTree::new(rt);
-            let mut sink = StdoutSink::new(rt);
+            let mut sink = StdoutSink::new(io::writer(rt));
             nonstrict(rt.alloc(), words.as_slice(), &mut tree, &mut sink)
         }
         Err(error) => unreadable(&error),
@@ -55,8 +56,8 @@ fn words<R: Env + AllocGlobal>(rt: &R) -> io::Result<Vec<String>> {
     Ok(env::args(rt)?.skip(1).collect(rt.alloc())?)
 }
 
-/// Tells standard error the word for a status, where it has one, and gives the exit status, which is the same even
-/// where standard error can't be told.
+/// Tells standard error the word for a status, where it has one, and gives the exit status, which
+/// is the same even where standard error can't be told.
 fn end(rt: &impl Eprint, status: Status) -> ExitCode
     ensures { exit_status result ≡ code_of status }
 {
@@ -66,5 +67,9 @@ fn end(rt: &impl Eprint, status: Status) -> ExitCode
     ExitCode::from(status.code())
 }
 
+#[cfg(test)]
+mod memory_tests;
+#[cfg(test)]
+mod run_tests;
 #[cfg(test)]
 mod tests;

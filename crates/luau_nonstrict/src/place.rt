@@ -16,8 +16,8 @@ pub fn joined(alloc: Global, folder: &str, name: &str) -> Result<String, AllocEr
     Ok(path)
 }
 
-/// Where a path of a root lies. The root without a name is the folder in which the program runs, and the path
-/// without a name is the root itself.
+/// Where a path of a root lies. The root without a name is the folder in which the program runs,
+/// and the path without a name is the root itself.
 pub fn place_of(alloc: Global, root: &str, path: &str) -> Result<String, AllocError>
     ensures { IfOk result (λ there. string_bytes there ≡ place root.now path.now) }
 {

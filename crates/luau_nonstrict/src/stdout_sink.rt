@@ -1,24 +1,25 @@
 //! The standard output.
 ghost use Rattle.std.specs.Prelude.{◌≡◌, ◌≤◌, IfOk, length};
+ghost use Rattle.std.specs.Io.KnownBytes.{WriteAppends};
 
-use crate::faults::FaultCount;
+use crate::fault_count::FaultCount;
 use outside::{Sink, SinkFailed};
 use std::io;
-use std::io::ErrorKind;
+use std::io::{ErrorKind, Write};
 
 /// How often one write may be interrupted.
 const TRIES: u32 = 4096;
 
-/// The standard output as a sink. It tells no bytes.
+/// A writer, as that to the standard output, as a sink. It tells no bytes.
 #[derive(Drop)]
-pub struct StdoutSink<P> {
-    out: P,
+pub struct StdoutSink<W> {
+    out: W,
     faults: FaultCount,
 }
 
-impl<P> StdoutSink<P> {
-    /// The standard output of this runtime, with no fault so far.
-    pub fn new(out: P) -> StdoutSink<P>
+impl<W> StdoutSink<W> {
+    /// What this writer takes, with no fault so far.
+    pub fn new(out: W) -> StdoutSink<W>
         ensures { result.faults.count ≡ 0 }
     {
         StdoutSink {
@@ -28,14 +29,14 @@ impl<P> StdoutSink<P> {
     }
 }
 
-impl<P: Print> Sink for StdoutSink<P> {
+impl<W: Write> Sink for StdoutSink<W> {
     ghost use Rattle.std.specs.Prelude.{◌<◌, None, OnErr};
     ghost use Rattle.outside.specs.Cause.{Rose};
-    ghost use Rattle.outside.specs.Memory.{count_after};
+    ghost use Rattle.outside.specs.Plan.{count_after};
 
     ghost written = { λ _. None };
 
-    ghost pieces = { λ _. None };
+    ghost chunks = { λ _. None };
 
     ghost faults = { λ sink. sink.faults.count };
 
@@ -44,15 +45,21 @@ impl<P: Print> Sink for StdoutSink<P> {
     fn write(&mut self, bytes: &[u8]) -> Result<usize, SinkFailed>
         ensures within { IfOk result (λ n. n ≤ length bytes.now) }
         ensures failed { OnErr result (Rose self.old.faults.count self.new.faults.count) }
-        ensures idle { result ≡ Ok 0 → 0 < length bytes.now → Rose self.old.faults.count self.new.faults.count }
+        ensures idle { result ≡ Ok 0 → 0 < length bytes.now →
+            Rose self.old.faults.count self.new.faults.count }
         ensures quiet { IfOk result (λ n. 0 < n → self.new.faults.count ≡ self.old.faults.count) }
         ensures never_falls { self.old.faults.count ≤ self.new.faults.count }
 
+        // The writer holds what it took, once, and nothing more where it fails.
+        ensures held { WriteAppends (W.contents self.old.out) (W.contents self.new.out) result
+            bytes.now }
+
         // A failure counts once, and so does a write that takes nothing.
         ensures once { OnErr result (self.new.faults.count ≡ count_after self.old.faults.count) }
-        ensures once_idle { result ≡ Ok 0 → self.new.faults.count ≡ count_after self.old.faults.count }
+        ensures once_idle { result ≡ Ok 0 →
+            self.new.faults.count ≡ count_after self.old.faults.count }
     {
-        let written = write_some(&self.out, bytes);
+        let written = write_some(&mut self.out, bytes);
         if !matches!(written, Ok(1..)) {
             self.faults.rise();
         }
@@ -61,11 +68,12 @@ impl<P: Print> Sink for StdoutSink<P> {
 }
 
 /// Writes some of the bytes and says how many. An interrupted write is tried again.
-fn write_some<P: Print>(out: &P, bytes: &[u8]) -> io::Result<usize>
-    ensures { IfOk result (λ n. n ≤ length bytes.now) }
+fn write_some<W: Write>(out: &mut W, bytes: &[u8]) -> io::Result<usize>
+    ensures within { IfOk result (λ n. n ≤ length bytes.now) }
+    ensures held { WriteAppends (W.contents out.old) (W.contents out.new) result bytes.now }
 {
     for _ in 0..TRIES {
-        match out.write_some(bytes) {
+        match out.write(bytes) {
             Err(e) if e.kind() == ErrorKind::Interrupted => {}
             answer => return answer,
         }

@@ -1,5 +1,5 @@
 //! A bound on the turns of a call.
-ghost use Rattle.std.specs.Prelude.{◌≢◌, ◌≡◌};
+ghost use Rattle.std.specs.Prelude.{◌≡◌};
 ghost use Rattle.std.specs.IoError.{error_kind};
 
 use std::io;

@@ -1,6 +1,9 @@
 //! The walk through a folder.
-ghost use Rattle.std.specs.Prelude.{◌≡◌, ◌+◌, ◌≤◌, ◌↔◌, All, IfOk, OnOk, OnErr, IsErr, string_bytes};
+ghost use Rattle.std.specs.Prelude.{◌≡◌, ◌+◌, ◌≤◌, ◌↔◌, All, IfOk, OnOk, OnErr, IsErr, false, string_bytes, true};
+ghost use Rattle.std.specs.Fs.{IsDir, IsFile};
 ghost use Rattle.std.specs.List.Sorted.{IsSorted};
+ghost use Rattle.luau_nonstrict.specs.Met.{Finds, IsToEnter};
+ghost use Rattle.luau_nonstrict.specs.Place.{join};
 ghost use Rattle.luau_nonstrict.specs.Visible.{is_hidden, IsName, IsShown, IsVisible, StaysVisible};
 
 use crate::place::{joined, place_of};
@@ -21,9 +24,10 @@ struct Walk {
     found: Vec<String>,
 }
 
-/// The paths of all regular files of a root, in the order of their bytes. It enters no folder whose name begins with
-/// `.`, follows no link but the root itself, and passes over what is neither a file nor a folder. A name that isn't
-/// UTF-8 is an error. Each folder and each name in it takes a turn, and it is an error if `turns` are too few.
+/// The paths of all regular files of a root, in the order of their bytes. It enters no folder whose
+/// name begins with `.`, follows no link but the root itself, and passes over what is neither a
+/// file nor a folder. A name that isn't UTF-8 is an error. Each folder and each name in it takes a
+/// turn, and it is an error if `turns` are too few.
 pub fn list_files<R: Files + Alloc + Clone + Drop>(
     rt: &R,
     alloc: Global,
@@ -31,7 +35,8 @@ pub fn list_files<R: Files + Alloc + Clone + Drop>(
     turns: u32,
 ) -> io::Result<Vec<String>>
     ensures sorted { IfOk result (λ paths. IsSorted ⟦<String as Ord>⟧.cmp paths.items) }
-    ensures visible { IfOk result (λ paths. All (λ path. IsVisible (string_bytes path)) paths.items) }
+    ensures visible { IfOk result (λ paths. All (λ path.
+        IsVisible (string_bytes path)) paths.items) }
 {
     let mut walk = Walk::new(alloc, turns)?;
     while let Some(folder) = walk.pending.pop() {
@@ -108,6 +113,15 @@ impl Walk {
         requires visible { StaysVisible self.old }
         ensures turns { self.new.turns ≡ self.old.turns }
         ensures visible { OnOk result (StaysVisible self.new) }
+
+        // A file is found, a folder is to be entered unless it is hidden, and nothing else is kept.
+        ensures file { OnOk result (IsFile file_type →
+            Finds self.old self.new (join folder.now name.now)) }
+        ensures folder { OnOk result (IsDir file_type → is_hidden name.now ≡ false →
+            IsToEnter self.old self.new (join folder.now name.now)) }
+        ensures hidden { OnOk result (IsDir file_type → is_hidden name.now ≡ true →
+            self.new ≡ self.old) }
+        ensures other { OnOk result (¬ IsFile file_type → ¬ IsDir file_type → self.new ≡ self.old) }
     {
         if file_type.is_file() {
             self.found.push(joined(alloc, folder, name)?)?;

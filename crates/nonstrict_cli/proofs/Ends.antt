@@ -1,6 +1,6 @@
 -- How a run ends that writes nothing, and what a checked folder can't end with.
 use Rattle.std.proofs.Common.{◌≡◌, ℕ, List, [], Option, None, Some, IfSome, ap, sym, subst, ◌∙◌, append-nil, refl, inl, inr, Result, Err}
-use Rattle.outside.specs.Contents.{Contents, File}
+use Rattle.outside.specs.Contents.{Contents}
 use Rattle.outside.specs.Written.{Appends}
 use Rattle.nonstrict_cli.specs.declared.status.Limit.{Limit}
 use Rattle.nonstrict_cli.specs.declared.status.Status.{Status}
@@ -12,7 +12,7 @@ use Rattle.nonstrict_cli.specs.Answer.{Answers, StopsWith}
 use Rattle.nonstrict_cli.specs.Command.{command}
 use Rattle.nonstrict_cli.specs.Folder.{limit_of}
 use Rattle.nonstrict_cli.specs.Output.{Output, output, output_for, output_within}
-use Rattle.nonstrict_cli.specs.Run.{EndsWell}
+use Rattle.nonstrict_cli.specs.Ending.{EndsWell}
 use Rattle.nonstrict_cli.specs.Status.{IsAnswer, IsChecked, IsSilent}
 use Rattle.nonstrict_cli.specs.Stop.{status_after}
 
@@ -79,8 +79,7 @@ answer_ends_well written words (Some contents) answer before after TreeRose Sink
 pub err_over : {T U E : Type 0} (a b : E) → ◌≡◌ {A = Result T E} (Err a) (Err b) → ◌≡◌ {A = Result U E} (Err a) (Err b)
 err_over a b e = let same : a ≡ b = cc in ap Err same
 
--- what holds of every folder holds of the one that the words name, in what is told
-pub of_folder : (P : List File → Type 0) (told : Option Contents) (named : Option (List ℕ)) → ((files : List File) → P files) → IfSome told (λ contents. IfSome named (λ folder. P (contents folder)))
-of_folder P None named all = tt
-of_folder P (Some contents) None all = tt
-of_folder P (Some contents) (Some folder) all = all (contents folder)
+-- the text of an answer is that of the output
+pub text_is_written : (words : List (List ℕ)) (told : Option Contents) (answer : Answer) (before after : Option (List ℕ)) → IfSome told (Answers words answer) → Appends before after answer.text.items → IfSome told (λ contents. Appends before after (output words contents).bytes)
+text_is_written words None answer before after answers whole = tt
+text_is_written words (Some contents) answer before after answers whole = subst (λ (bytes : List ℕ). Appends before after bytes) answers.text whole

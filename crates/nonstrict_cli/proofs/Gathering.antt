@@ -1,5 +1,5 @@
 -- Gathering the lines of a folder file by file.
-use Rattle.std.proofs.Common.{◌≡◌, ◌≤◌, ◌<◌, ◌+◌, ℕ, zero, suc, true, false, List, [], ◌∷◌, Option, None, Some, IfSome, IsSome, flat_map, filter, map, take, drop, length, get_or, refl, ap, sym, ◌∙◌, subst, arith, if◌then◌else◌, option_map, nat_lt}
+use Rattle.std.proofs.Common.{◌≡◌, ◌≤◌, ◌<◌, ◌+◌, ℕ, zero, suc, true, false, List, [], ◌∷◌, Option, None, Some, IfSome, IsSome, flat_map, filter, map, take, ◌++◌, drop, length, get_or, refl, ap, sym, ◌∙◌, subst, arith, if◌then◌else◌, option_map, nat_lt}
 use Rattle.std.specs.declared.cmp.Ordering.TheVariants.{Less, Equal, Greater}
 use Rattle.std.specs.Ordering.{match_ordering}
 use Rattle.std.specs.Option.{is_some}
@@ -15,21 +15,21 @@ use Rattle.outside.specs.Contents.{Contents, File, file_at, paths_of}
 use Rattle.nonstrict_cli.specs.declared.limits.TheConstants.{MAX_FILES, MAX_TOTAL}
 use Rattle.nonstrict_cli.specs.declared.status.Limit.{Limit}
 use Rattle.nonstrict_cli.specs.declared.status.Limit.TheVariants.{Bytes, Files}
-use Rattle.nonstrict_cli.specs.Folder.{first_over, is_module_path, limit_of, lines_of_file, module_paths, sorted_paths, source}
-
--- the size of a file as it is read
-abbrev pub size : List File → List ℕ → ℕ
-size files path = length (source files path)
+use Rattle.nonstrict_cli.specs.Asked.{read_after}
+use Rattle.nonstrict_cli.specs.Fate.{fate_at}
+use Rattle.nonstrict_cli.specs.Folder.{first_over, is_module_path, limit_of, module_paths, size_read, sorted_paths}
+use Rattle.nonstrict_cli.specs.Lines.{lines_for}
 
 -- the lines of a file as it is read
 abbrev pub lines_in : List File → List ℕ → List Line
-lines_in files path = lines_of_file (module_paths files) path (source files path)
+lines_in files path = lines_for path (fate_at files path)
 
 -- of a folder's modules so many are read: these are their lines and the sum of their sizes
 pub record Read (files : List File) (paths : List (List ℕ)) (count total : ℕ) (lines : List Line) : Type 0 where
   pub listed : paths ≡ module_paths files
   pub lines_so_far : lines ≡ flat_map (lines_in files) (take count paths)
-  pub sums : first_over 0 (map (size files) paths) ≡ first_over total (map (size files) (drop count paths))
+  pub sums : first_over 0 (map (size_read files) paths) ≡ first_over total (map (size_read files) (drop count paths))
+  pub reads : read_after 0 files paths ≡ take count paths ++ read_after total files (drop count paths)
 
 -- the same, where the tree tells what it holds
 abbrev pub Gathered : Option Contents → List ℕ → List (List ℕ) → ℕ → ℕ → List Line → Type 0
@@ -41,10 +41,10 @@ ends total n sizes h = rw (lt-ltb MAX_TOTAL (total + n) h) refl
 
 -- the limit that these paths of a folder pass
 unfoldable limit_on : List File → List (List ℕ) → Option Limit
-limit_on files paths = if nat_lt MAX_FILES (length paths) then Some (Files (length paths)) else option_map Bytes (first_over 0 (map (size files) paths))
+limit_on files paths = if nat_lt MAX_FILES (length paths) then Some (Files (length paths)) else option_map Bytes (first_over 0 (map (size_read files) paths))
 
 -- few paths pass the limit on bytes alone
-limit_on-few : (files : List File) (paths : List (List ℕ)) → length paths ≤ MAX_FILES → limit_on files paths ≡ option_map Bytes (first_over 0 (map (size files) paths))
+limit_on-few : (files : List File) (paths : List (List ℕ)) → length paths ≤ MAX_FILES → limit_on files paths ≡ option_map Bytes (first_over 0 (map (size_read files) paths))
 unfolding limit_on
 limit_on-few files paths few = rw (le-ltb MAX_FILES (length paths) few) refl
 
@@ -53,12 +53,12 @@ unfolding limit_on
 limit_on-listed files paths listed = ap (limit_on files) (sym listed)
 
 -- a file with which the sum passes the limit
-pub gathered_over : (told : Option Contents) (folder : List ℕ) (paths : List (List ℕ)) (count total : ℕ) (lines : List Line) (path : List ℕ) (limit : Limit) → count < length paths → path ≡ get_or paths count path → length paths ≤ MAX_FILES → IfSome told (λ contents. (limit ≡ Bytes (total + size (contents folder) path)) × (MAX_TOTAL < total + size (contents folder) path)) → Gathered told folder paths count total lines → IfSome told (λ contents. limit_of (contents folder) ≡ Some limit)
+pub gathered_over : (told : Option Contents) (folder : List ℕ) (paths : List (List ℕ)) (count total : ℕ) (lines : List Line) (path : List ℕ) (limit : Limit) → count < length paths → path ≡ get_or paths count path → length paths ≤ MAX_FILES → IfSome told (λ contents. (limit ≡ Bytes (total + size_read (contents folder) path)) × (MAX_TOTAL < total + size_read (contents folder) path)) → Gathered told folder paths count total lines → IfSome told (λ contents. limit_of (contents folder) ≡ Some limit)
 gathered_over None folder paths count total lines path limit h here few over g = tt
 gathered_over (Some contents) folder paths count total lines path limit h here few over r =
     let files = contents folder in
     let back : drop count paths ≡ path ∷ drop (count + 1) paths = drop_more paths count path h ∙ ap (λ p. p ∷ drop (count + 1) paths) (sym here) in
-    let sum : first_over 0 (map (size files) paths) ≡ Some (total + size files path) = r.sums ∙ ap (λ ps. first_over total (map (size files) ps)) back ∙ ends total (size files path) (map (size files) (drop (count + 1) paths)) over.1 in
+    let sum : first_over 0 (map (size_read files) paths) ≡ Some (total + size_read files path) = r.sums ∙ ap (λ ps. first_over total (map (size_read files) ps)) back ∙ ends total (size_read files path) (map (size_read files) (drop (count + 1) paths)) over.1 in
     limit_on-listed files paths r.listed ∙ limit_on-few files paths few ∙ ap (option_map Bytes) sum ∙ ap Some (sym over.0)
 
 -- there is a file at each path of a folder

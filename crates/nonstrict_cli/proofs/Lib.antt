@@ -1,11 +1,14 @@
 pub mod PathOrder
+pub mod Fates
 pub mod Gathering
-pub mod Pieces
+pub mod Asking
+pub mod Chunks
 pub mod Ends
 pub mod Cuts
 pub mod Calls
-pub mod ReportLines
 pub mod Reported
 pub mod ReportedLines
+pub mod Members
+pub mod Telling
 pub mod Names
 pub mod Rests

@@ -5,8 +5,8 @@ use Rattle.std.specs.List.{find}
 use Rattle.std.proofs.lemmas.Bool.{ne_eqb}
 use Rattle.luau_tree.specs.declared.names.Place.{Place}
 use Rattle.luau_tree.specs.declared.position.Span.{Span}
-use Rattle.luau_tree.specs.Nodes.{expr_number, expr_span, expr_start, exprs_in, span_at}
 use Rattle.luau_tree.specs.Tree.{Block, more_stats, Expr}
+use Rattle.luau_tree.specs.Nodes.{expr_start, exprs_in, expr_number, expr_span, span_at}
 use Rattle.rules_certain.specs.Literal.{Literal, NilLiteral, TruthLiteral, NumberLiteral, StrLiteral, is_number}
 use Rattle.rules_certain.specs.Calls.{Written, stat_of, block_of, after_call}
 use Rattle.rules_certain.specs.Reports.{place, argument_of, reports_in}

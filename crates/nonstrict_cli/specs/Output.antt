@@ -10,7 +10,8 @@ use Rattle.nonstrict_cli.specs.declared.status.Limit.{Limit}
 use Rattle.nonstrict_cli.specs.declared.status.Status.{Status}
 use Rattle.nonstrict_cli.specs.declared.status.Status.TheVariants.{Clean, Reports, Refused, Usage, TooLarge}
 use Rattle.nonstrict_cli.specs.Command.{command}
-use Rattle.nonstrict_cli.specs.Folder.{lines_of, limit_of}
+use Rattle.nonstrict_cli.specs.Folder.{limit_of}
+use Rattle.nonstrict_cli.specs.Lines.{lines_of}
 
 -- the bytes and the status of a run
 pub record Output : Type 0 where
@@ -23,9 +24,13 @@ is_refusal kinds.Refused = true
 is_refusal kinds.Skipped = true
 is_refusal _ = false
 
--- the status of some lines: Refused where a file isn't checked, else Clean where there is no line, else Reports
+-- the status of some lines: Refused where a file isn't checked, else Clean where there is no line,
+-- else Reports
 abbrev pub status_of : List Line → Status
-status_of lines = if list_any (λ l. is_refusal l.kind) lines then Refused else if length lines == 0 then Clean else Reports
+status_of lines =
+    if list_any (λ l. is_refusal l.kind) lines then Refused
+    else if length lines == 0 then Clean
+    else Reports
 
 -- nothing is written
 abbrev pub silent : Status → Output
@@ -35,7 +40,8 @@ silent status = record { bytes = []; status = status }
 abbrev pub written : List Line → Output
 written lines = record { bytes = flat_map text_of lines; status = status_of lines }
 
--- the output for a folder by the limit that it passes, at which nothing is written; without one its lines
+-- the output for a folder by the limit that it passes, at which nothing is written; without one its
+-- lines
 abbrev pub output_within : Option Limit → List File → Output
 output_within None files = written (lines_of files)
 output_within (Some limit) files = silent (TooLarge limit)

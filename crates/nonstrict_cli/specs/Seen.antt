@@ -1,4 +1,4 @@
--- What the reader's calls stand for.
+-- What the code's own types stand for.
 use Rattle.std.specs.Prelude.{List, ◌∷◌}
 use Rattle.luau_lex.specs.declared.token.Token.{Token}
 use Rattle.luau_lex.specs.Tokens.{seen_token}

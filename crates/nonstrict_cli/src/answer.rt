@@ -1,13 +1,16 @@
 //! Everything up to the first write.
-ghost use Rattle.std.specs.Prelude.{◌≡◌, ◌≢◌, ◌↔◌, ◌++◌, None, Some, IfOk, IfErr, IfSome, OnOk, flat_map, map, string_bytes};
+ghost use Rattle.std.specs.Prelude.{◌≡◌, ◌≢◌, ◌↔◌, None, Some, IfOk, IfSome, flat_map, map, string_bytes};
 ghost use Rattle.std.specs.List.{list_any};
 ghost use Rattle.diag_text.specs.Line.{text_of};
 ghost use Rattle.outside.specs.Cause.{Rose};
+ghost use Rattle.outside.specs.Written.{Appends};
+ghost use Rattle.nonstrict_cli.specs.Asked.{asked};
 ghost use Rattle.nonstrict_cli.specs.Command.{command};
-ghost use Rattle.nonstrict_cli.specs.Output.{is_refusal, output, status_of};
+ghost use Rattle.nonstrict_cli.specs.Output.{is_refusal, status_of};
 ghost use Rattle.nonstrict_cli.specs.Status.{IsChecked};
 ghost use Rattle.nonstrict_cli.specs.declared.status.Limit.{Limit};
 ghost use Rattle.nonstrict_cli.specs.Answer.{Answers, StopsWith};
+ghost use Rattle.nonstrict_cli.specs.Written.{AppendsFront};
 
 use crate::Status;
 use crate::folder::folder_lines;
@@ -72,10 +75,20 @@ pub(crate) fn make_answer<T: Tree>(
     tree: &mut T,
 ) -> Result<Answer, Stop>
     ensures usage { (result ≡ Err Stop.Usage) ↔ (command (map string_bytes words.now) ≡ None) }
-    ensures answer { IfOk result (λ answer. IfSome (T.contents tree.old) (Answers (map string_bytes words.now) answer)) }
+    ensures answer { IfOk result (λ answer. IfSome (T.contents tree.old)
+        (Answers (map string_bytes words.now) answer)) }
     ensures checked { IfOk result (λ answer. IsChecked answer.status) }
-    ensures too_large { (limit : Limit) → result ≡ Err (Stop.TooLarge limit) → IfSome (T.contents tree.old) (StopsWith (map string_bytes words.now) limit) }
-    ensures read_fault { result ≡ Err Stop.ReadFault → Rose (T.faults tree.old) (T.faults tree.new) }
+    ensures too_large { (limit : Limit) → result ≡ Err (Stop.TooLarge limit) →
+        IfSome (T.contents tree.old) (StopsWith (map string_bytes words.now) limit) }
+    ensures asked { IfSome (T.contents tree.old) (λ told.
+        AppendsFront (T.asked tree.old) (T.asked tree.new)
+        (asked (map string_bytes words.now) told)) }
+    ensures asked_all { result ≢ Err Stop.ReadFault → result ≢ Err Stop.NoMemory →
+        IfSome (T.contents tree.old) (λ told.
+        Appends (T.asked tree.old) (T.asked tree.new)
+        (asked (map string_bytes words.now) told)) }
+    ensures read_fault { result ≡ Err Stop.ReadFault →
+        Rose (T.faults tree.old) (T.faults tree.new) }
     ensures quiet { result ≢ Err Stop.ReadFault → T.faults tree.new ≡ T.faults tree.old }
     ensures same { T.contents tree.new ≡ T.contents tree.old }
 {

@@ -2,13 +2,15 @@
 #![tactic(auto)]
 
 mod answer;
-mod file;
+mod fate;
 mod folder;
 mod form;
 pub mod laws;
 mod limits;
+mod lines;
 mod nonstrict_call;
 mod paths;
+mod reason;
 mod status;
 mod stop;
 mod words;
@@ -16,7 +18,5 @@ mod write;
 
 pub use limits::{MAX_FILES, MAX_READ, MAX_TOTAL};
 pub use nonstrict_call::nonstrict;
+pub use reason::Reason;
 pub use status::{Limit, Status};
-
-#[cfg(test)]
-mod tests;

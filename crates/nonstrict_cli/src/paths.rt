@@ -1,5 +1,5 @@
 //! The paths of the modules of a folder.
-ghost use Rattle.std.specs.Prelude.{◌≡◌, IfOk, filter, map, string_bytes};
+ghost use Rattle.std.specs.Prelude.{◌≡◌, IfOk, map, string_bytes};
 ghost use Rattle.std.specs.List.{list_any};
 ghost use Rattle.std.specs.List.Sorted.{IsSorted};
 ghost use Rattle.std.specs.Str.{bytes_eq};
@@ -19,7 +19,8 @@ fn is_module_path(path: &str) -> bool
 
 /// The paths that are those of modules, in order, each once.
 pub(crate) fn modules_among(alloc: Global, paths: Vec<String>) -> Result<Vec<Text>, AllocError>
-    ensures paths { IfOk result (λ kept. kept.items ≡ modules_among (map string_bytes paths.items)) }
+    ensures paths { IfOk result (λ kept.
+        kept.items ≡ modules_among (map string_bytes paths.items)) }
     ensures order { IfOk result (λ kept. IsSorted bytes_cmp kept.items) }
 {
     let mut kept = Vec::with_capacity(alloc, paths.len())?;
@@ -76,10 +77,12 @@ fn twin_of(alloc: Global, path: &str) -> Result<Bytes, AllocError>
     Ok(Bytes::of(twin))
 }
 
-/// Whether another file of a folder with these paths, which are in order, has the module name of this one.
+/// Whether another file of a folder with these paths, which are in order, has the module name of
+/// this one.
 pub(crate) fn has_twin(alloc: Global, paths: &[Bytes], path: &str) -> Result<bool, AllocError>
     requires { IsSorted bytes_cmp paths.now }
-    ensures { IfOk result (λ has. has ≡ list_any (λ other. bytes_eq other (twin_of path.now)) paths.now) }
+    ensures { IfOk result (λ has. has ≡ list_any (λ other.
+        bytes_eq other (twin_of path.now)) paths.now) }
 {
     let twin = twin_of(alloc, path)?;
     Ok(is_among(paths, &twin))

@@ -6,8 +6,8 @@ ghost use Rattle.nonstrict_cli.specs.Status.{code_of, word_of};
 pub enum Limit {
     /// It has so many modules, more than 10,000.
     Files(u64),
-    /// What is read of its modules, at most 1,048,577 bytes of each, passes 67,108,864 bytes: so many are read up to
-    /// and including the first module with which it does.
+    /// What is read of its modules, at most 1,048,577 bytes of each, passes 67,108,864 bytes: so
+    /// many are read up to and including the first module with which it does.
     Bytes(u64),
 }
 

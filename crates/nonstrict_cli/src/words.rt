@@ -9,8 +9,8 @@ fn is_folder(word: &str) -> bool
     !bytes.is_empty() && !bytes.starts_with(b"-") && !bytes.starts_with(b"sample:")
 }
 
-/// The folder that the words name, where they are a command: one word that isn't empty and begins neither with `-`
-/// nor with `sample:`.
+/// The folder that the words name, where they are a command: one word that isn't empty and begins
+/// neither with `-` nor with `sample:`.
 pub(crate) fn folder_of(words: &[String]) -> Option<&str>
     ensures { option_copied result ≡ command (map string_bytes words.now) }
 {

@@ -7,11 +7,11 @@ ghost use Rattle.nonstrict_cli.specs.Written.{AppendsPart, GivesRests};
 
 use outside::Sink;
 
-/// Gives the text to the sink, each time the whole rest, and says whether the sink took it all. It ends where the sink
-/// fails, or takes nothing while bytes are left.
+/// Gives the text to the sink, each time the whole rest, and says whether the sink took it all. It
+/// ends where the sink fails, or takes nothing while bytes are left.
 pub(crate) fn write_whole<S: Sink>(sink: &mut S, text: &[u8]) -> bool
     ensures whole { OnTrue result (Appends (S.written sink.old) (S.written sink.new) text.now) }
-    ensures rests { GivesRests (S.pieces sink.old) (S.pieces sink.new) text.now }
+    ensures rests { GivesRests (S.chunks sink.old) (S.chunks sink.new) text.now }
     ensures quiet { OnTrue result (S.faults sink.new ≡ S.faults sink.old) }
     ensures part { OnFalse result (AppendsPart (S.written sink.old) (S.written sink.new) text.now) }
     ensures fault { OnFalse result (Rose (S.faults sink.old) (S.faults sink.new)) }

@@ -6,12 +6,12 @@ use Rattle.std.proofs.Math.Seq.{take-add, take-length}
 use Rattle.outside.specs.Written.{Appends}
 
 -- a front that matches so far and is followed by what is expected next still matches
-pub front_grows : (expected piece : List ℕ) (n : ℕ) → starts_with nat_eq (drop n expected) piece ≡ true → take (n + length piece) expected ≡ take n expected ++ piece
-front_grows expected piece n e =
-    let next : piece ≡ take (length piece) (drop n expected) = same_text piece (take (length piece) (drop n expected)) (sym e) in
-    take-add n (length piece) expected ∙ ap (λ rest. take n expected ++ rest) (sym next)
+pub front_grows : (expected chunk : List ℕ) (n : ℕ) → starts_with nat_eq (drop n expected) chunk ≡ true → take (n + length chunk) expected ≡ take n expected ++ chunk
+front_grows expected chunk n e =
+    let next : chunk ≡ take (length chunk) (drop n expected) = same_text chunk (take (length chunk) (drop n expected)) (sym e) in
+    take-add n (length chunk) expected ∙ ap (λ rest. take n expected ++ rest) (sym next)
 
--- so a sink that compares tells the piece that was appended
-pub told_grows : (expected piece : List ℕ) (n : ℕ) (matches : Bool) → (matches && starts_with nat_eq (drop n expected) piece) ≡ true → Appends (if matches then Some (take n expected) else None) (if matches then Some (take (n + length piece) expected) else None) (take (length piece) piece)
-told_grows expected piece n true e = front_grows expected piece n e ∙ ap (λ p. take n expected ++ p) (sym (take-length piece))
-told_grows expected piece n false e = tt
+-- so a sink that compares tells the chunk that was appended
+pub told_grows : (expected chunk : List ℕ) (n : ℕ) (matches : Bool) → (matches && starts_with nat_eq (drop n expected) chunk) ≡ true → Appends (if matches then Some (take n expected) else None) (if matches then Some (take (n + length chunk) expected) else None) (take (length chunk) chunk)
+told_grows expected chunk n true e = front_grows expected chunk n e ∙ ap (λ p. take n expected ++ p) (sym (take-length chunk))
+told_grows expected chunk n false e = tt

@@ -36,10 +36,16 @@ in_order (p ∷ q ∷ paths) = comes_before p q && in_order (q ∷ paths)
 abbrev pub IsOrdered : Contents → Type 0
 IsOrdered contents = (root : List ℕ) → IsTrue (in_order (paths_of (contents root)))
 
--- where contents are told, these bytes are the first ones of the file at the path, and the file is there
+-- where contents are told, these bytes are the first ones of the file at the path, and the file is
+-- there
 abbrev pub Reads : Option Contents → List ℕ → List ℕ → ℕ → List ℕ → Type 0
-Reads told root path at_most bytes = IfSome told (λ contents. IsSomeAnd (file_at (contents root) path) (λ file. bytes ≡ take at_most file))
+Reads told root path at_most bytes =
+    IfSome told (λ contents.
+    IsSomeAnd (file_at (contents root) path) (λ file. bytes ≡ take at_most file))
 
--- a file is absent: where contents are told, there is none at the path and the count stays; else the count rose
+-- a file is absent: where contents are told, there is none at the path and the count stays; else
+-- the count rose
 abbrev pub Lacks : Option Contents → List ℕ → List ℕ → ℕ → ℕ → Type 0
-Lacks told root path before after = MatchOption told (Rose before after) (λ contents. (file_at (contents root) path ≡ None) × (after ≡ before))
+Lacks told root path before after =
+    MatchOption told (Rose before after) (λ contents.
+    (file_at (contents root) path ≡ None) × (after ≡ before))

@@ -3,8 +3,9 @@ pub mod Contents
 pub mod Written
 pub mod Roots
 pub mod SureSink
-pub mod Memory
+pub mod Plan
 pub mod MemoryTree
 pub mod MemorySink
 pub mod SureTree
-pub mod PieceSink
+pub mod ChunkSink
+pub mod AskedTree

@@ -1,10 +1,10 @@
 -- A sink in memory whose calls fail as planned.
 use Rattle.std.specs.Prelude.{◌≡◌, ◌-◌, ℕ, List, [], Result, Ok, Err, min, length, if◌then◌else◌}
-use Rattle.outside.specs.declared.planned_sink.MemorySink.{MemorySink}
+use Rattle.outside.specs.declared.memory_sink.MemorySink.{MemorySink}
 use Rattle.outside.specs.declared.sink.SinkFailed.{SinkFailed}
-use Rattle.outside.specs.declared.memory.Turn.{Turn}
-use Rattle.outside.specs.declared.memory.Turn.TheVariants.{Fails, Idles, Takes}
-use Rattle.outside.specs.Memory.{count_after, is_fault, is_listed, turn_of}
+use Rattle.outside.specs.declared.plan.Turn.{Turn}
+use Rattle.outside.specs.declared.plan.Turn.TheVariants.{Fails, Idles, Takes}
+use Rattle.outside.specs.Plan.{count_after, is_fault, is_listed, turn_of}
 
 -- the bytes written so far
 abbrev pub written_to : MemorySink → List ℕ
@@ -14,11 +14,15 @@ written_to sink = sink.bytes.items
 abbrev pub faults_of : MemorySink → ℕ
 faults_of sink = sink.plan.faults
 
--- what the next call does with a piece of so many bytes
+-- what the next call does with a chunk of so many bytes
 abbrev pub turn_at : MemorySink → ℕ → Turn
-turn_at sink len = turn_of (is_listed sink.plan.failing.items sink.plan.calls) (is_listed sink.idle.items sink.plan.calls) (min len sink.per_call) (sink.room - length sink.bytes.items)
+turn_at sink len =
+    let fails = is_listed sink.plan.failing.items sink.plan.calls in
+    let idles = is_listed sink.idle.items sink.plan.calls in
+    turn_of fails idles (min len sink.per_call) (sink.room - length sink.bytes.items)
 
--- a sink with so much room, a limit per call and these numbers of failing and idle calls, which was given nothing
+-- a sink with so much room, a limit per call and these numbers of failing and idle calls, which was
+-- given nothing
 pub record IsFresh (left limit : ℕ) (fails idles : List ℕ) (sink : MemorySink) : Type 0 where
   pub room : sink.room ≡ left
   pub per_call : sink.per_call ≡ limit

@@ -1,6 +1,6 @@
 -- A tree in memory whose calls fail as planned.
 use Rattle.std.specs.Prelude.{ℕ, List}
-use Rattle.outside.specs.declared.planned_tree.MemoryTree.{MemoryTree}
+use Rattle.outside.specs.declared.memory_tree.MemoryTree.{MemoryTree}
 use Rattle.outside.specs.Contents.{Contents}
 use Rattle.outside.specs.Roots.{files_of}
 

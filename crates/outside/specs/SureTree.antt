@@ -1,5 +1,5 @@
 -- A tree in memory that never fails.
-use Rattle.outside.specs.declared.sure.SureTree.{SureTree}
+use Rattle.outside.specs.declared.sure_tree.SureTree.{SureTree}
 use Rattle.outside.specs.Contents.{Contents}
 use Rattle.outside.specs.Roots.{files_of}
 

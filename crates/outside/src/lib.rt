@@ -1,30 +1,31 @@
-//! The world outside the program: folders to read, a place to write to, what each call on them may answer, and
-//! why. Beside the traits stand forms that live in memory.
+//! The world outside the program: folders to read, a place to write to, what each call on them may
+//! answer, and why. Beside the traits stand forms that live in memory.
 #![tactic(auto)]
 
-mod containers;
-mod expecting;
-mod forms;
-mod keeping;
-mod memory;
-mod planned_sink;
-mod planned_tree;
+mod asked_tree;
+mod chunk_sink;
+mod list;
+mod memory_sink;
+mod memory_tree;
+mod plan;
+mod question;
 mod root;
 mod roots;
 mod sink;
-mod sure;
+mod sure_sink;
+mod sure_tree;
+mod text;
 mod tree;
 
-pub use containers::{List, Text};
-pub use expecting::SureSink;
-pub use forms::{memory_sink, memory_tree, piece_sink, sure_sink, sure_tree};
-pub use keeping::PieceSink;
-pub use planned_sink::MemorySink;
-pub use planned_tree::MemoryTree;
+pub use asked_tree::AskedTree;
+pub use chunk_sink::ChunkSink;
+pub use list::List;
+pub use memory_sink::MemorySink;
+pub use memory_tree::MemoryTree;
+pub use question::Question;
 pub use root::Root;
 pub use sink::{Sink, SinkFailed};
-pub use sure::SureTree;
+pub use sure_sink::SureSink;
+pub use sure_tree::SureTree;
+pub use text::Text;
 pub use tree::{Tree, TreeError};
-
-#[cfg(test)]
-mod tests;

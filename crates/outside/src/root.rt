@@ -19,7 +19,8 @@ impl Root {
     ghost use Rattle.std.specs.Prelude.{◌≡◌, ◌↔◌, IsSome, IfSome, option_copied};
     ghost use Rattle.outside.specs.Contents.{file_at};
 
-    /// A root of these files, or nothing where they aren't in the order of their paths or a path repeats.
+    /// A root of these files, or nothing where they aren't in the order of their paths or a path
+    /// repeats.
     pub fn new(name: Text, files: List<(Text, List<u8>)>) -> Option<Root>
         ensures ordered { IsSome result ↔ IsTrue (in_order (paths_of files)) }
         ensures name { IfSome result (λ root. root.name ≡ name) }

@@ -8,7 +8,8 @@ use std::alloc::{AllocError, Global};
 
 /// The first root of this name, if one is listed.
 fn root_of<'a>(roots: &'a [Root], name: &str) -> Option<&'a Root>
-    ensures { MatchOption result (files_of roots.now name.now ≡ []) (λ root. files_of roots.now name.now ≡ root.now.files) }
+    ensures { MatchOption result (files_of roots.now name.now ≡ []) (λ root.
+        files_of roots.now name.now ≡ root.now.files) }
 {
     for root in roots {
         if root.name.as_str() == name {

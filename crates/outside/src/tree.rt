@@ -1,7 +1,10 @@
-ghost use Rattle.std.specs.Prelude.{◌≡◌, ◌≢◌, ◌<◌, ◌≤◌, ◌^◌, ℕ, Option, None, IfSome, IfOk, OnOk, IsErr, map, string_bytes};
+ghost use Rattle.std.specs.Prelude.{◌≡◌, ◌≢◌, ◌<◌, ◌≤◌, ◌^◌, ◌∷◌, ℕ, List, [], Option, IfSome, IfOk, OnOk, map, string_bytes};
 ghost use Rattle.outside.specs.Cause.{Rose};
 ghost use Rattle.outside.specs.Contents.{Contents, IsOrdered, Lacks, Reads, paths_of};
+ghost use Rattle.outside.specs.Written.{Appends};
+ghost use Rattle.outside.specs.declared.question.Question.{Question};
 
+use crate::Question;
 use std::alloc::{AllocError, AllocFailed, Global};
 use thiserror::Error;
 
@@ -44,12 +47,19 @@ pub trait Tree {
     /// The files of each root, where the tree tells them.
     ghost contents: { Self → Option Contents };
 
+    /// What it was asked so far, one question a call, from the first call on, where the tree tells
+    /// it.
+    ghost asked: { Self → Option (List Question) };
+
     /// How often the tree has failed. The count never falls.
     ghost faults: { Self → ℕ };
 
     /// The paths of all files of a root. Where contents are told, they are in order.
     fn list(&mut self, alloc: Global, root: &str) -> Result<Vec<String>, TreeError>
-        ensures listed { IfOk result (λ paths. IfSome (contents self.old) (λ told. map string_bytes paths.items ≡ paths_of (told root.now))) }
+        ensures listed { IfOk result (λ paths.
+            IfSome (contents self.old) (λ told.
+            map string_bytes paths.items ≡ paths_of (told root.now))) }
+        ensures asked { Appends (asked self.old) (asked self.new) (Question.List root.now ∷ []) }
         ensures never_absent { result ≢ Err TreeError.Absent }
         ensures failed { result ≡ Err TreeError.Failed → Rose (faults self.old) (faults self.new) }
         ensures quiet { OnOk result (faults self.new ≡ faults self.old) }
@@ -65,8 +75,12 @@ pub trait Tree {
         path: &str,
         at_most: u64,
     ) -> Result<Vec<u8>, TreeError>
-        ensures bytes { IfOk result (λ bytes. Reads (contents self.old) root.now path.now at_most bytes.items) }
-        ensures absent { result ≡ Err TreeError.Absent → Lacks (contents self.old) root.now path.now (faults self.old) (faults self.new) }
+        ensures bytes { IfOk result (λ bytes.
+            Reads (contents self.old) root.now path.now at_most bytes.items) }
+        ensures asked { Appends (asked self.old) (asked self.new)
+            (Question.Read root.now path.now at_most ∷ []) }
+        ensures absent { result ≡ Err TreeError.Absent →
+            Lacks (contents self.old) root.now path.now (faults self.old) (faults self.new) }
         ensures failed { result ≡ Err TreeError.Failed → Rose (faults self.old) (faults self.new) }
         ensures quiet { OnOk result (faults self.new ≡ faults self.old) }
         ensures no_memory { result ≡ Err TreeError.NoMemory → faults self.new ≡ faults self.old }

@@ -7,7 +7,8 @@ const LISTED: &str = "folder_tree_listed";
 
 const READ: &str = "folder_tree_read";
 
-/// What a folder of the file system may hold: folders, hidden ones too, files with odd names, and links.
+/// What a folder of the file system may hold: folders, hidden ones too, files with odd names, and
+/// links.
 fn make(rt: &HostRuntime, base: &str) -> Result<(), Fail> {
     let alloc = rt.alloc();
     let _ = fs::remove_dir_all(rt, base);

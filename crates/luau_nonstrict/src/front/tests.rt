@@ -1,7 +1,8 @@
 use super::*;
 use std::test::Fail;
 
-/// A file of `x` that gives one byte at each read, with an interrupted read before each, and fails after some.
+/// A file of `x` that gives one byte at each read, with an interrupted read before each, and fails
+/// after some.
 #[derive(Drop)]
 struct Slow {
     good: u32,

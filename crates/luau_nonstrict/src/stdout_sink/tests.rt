@@ -1,6 +1,4 @@
 use super::*;
-use std::cell::Cell;
-use std::fmt::Display;
 use std::test::Fail;
 
 /// What the output does at one write.
@@ -17,34 +15,22 @@ use Answer::{Breaks, Interrupted, Takes};
 #[derive(Drop)]
 struct Script {
     answers: &'static [Answer],
-    at: Cell<usize>,
+    at: usize,
 }
 
-fn failed(kind: ErrorKind) -> io::Result<()> {
-    Err(io::Error::from(kind))
-}
-
-impl Print for Script {
-    fn print<D: Display + Drop>(&self, _value: D) -> io::Result<()> {
-        failed(ErrorKind::Unsupported)
-    }
-
-    fn println<D: Display + Drop>(&self, _value: D) -> io::Result<()> {
-        failed(ErrorKind::Unsupported)
-    }
-
-    fn write_all(&self, _bytes: &[u8]) -> io::Result<()> {
-        failed(ErrorKind::Unsupported)
-    }
-
-    fn write_some(&self, bytes: &[u8]) -> io::Result<usize> {
-        let at = self.at.get();
-        self.at.set(at.saturating_add(1));
+impl Write for Script {
+    fn write(&mut self, bytes: &[u8]) -> io::Result<usize> {
+        let at = self.at;
+        self.at = self.at.saturating_add(1);
         match self.answers.get(at) {
             Some(Takes(count)) => Ok(bytes.len().min(*count)),
             Some(Breaks) => Err(io::Error::from(ErrorKind::BrokenPipe)),
             _ => Err(io::Error::from(ErrorKind::Interrupted)),
         }
+    }
+
+    fn flush(&mut self) -> io::Result<()> {
+        Ok(())
     }
 }
 
@@ -63,10 +49,7 @@ fn a_write_is_tried_again_and_its_failures_count(rt: HostRuntime) -> Result<(), 
         ),
         ([].as_slice(), Err(SinkFailed), 1),
     ] {
-        let mut sink = StdoutSink::new(Script {
-            answers,
-            at: Cell::new(0),
-        });
+        let mut sink = StdoutSink::new(Script { answers, at: 0 });
         assert!(rt; sink.write(b"text") == wanted);
         assert_eq!(rt; sink.faults.count, faults);
     }
@@ -75,7 +58,7 @@ fn a_write_is_tried_again_and_its_failures_count(rt: HostRuntime) -> Result<(), 
 
 #[test]
 fn standard_output_takes_bytes(rt: HostRuntime) {
-    let mut sink = StdoutSink::new(&rt);
+    let mut sink = StdoutSink::new(io::writer(&rt));
     let answer = sink.write(b"a line\n");
     assert!(rt; matches!(answer, Ok(1..=7)));
     assert_eq!(rt; sink.faults.count, 0);

@@ -3,7 +3,8 @@ use std::alloc::Allocator;
 use std::fs::{File, Metadata, OpenOptions};
 use std::test::Fail;
 
-/// Folders that all hold the same names, each ended by a zero byte. A name that ends in `d` is a folder's.
+/// Folders that all hold the same names, each ended by a zero byte. A name that ends in `d` is a
+/// folder's.
 #[derive(Clone, Copy)]
 struct Names(&'static [u8]);
 

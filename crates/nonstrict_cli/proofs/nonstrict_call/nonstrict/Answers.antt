@@ -1,7 +1,6 @@
 use Rattle.std.proofs.Common.{Err, map, string_bytes, ap}
-use Rattle.nonstrict_cli.proofs.Ends.{answer_ends_well, of_folder, ended_bytes, ended_status, stop_ends_well, not_read_fault, not_silent, not_usage, not_write_fault}
-use Rattle.nonstrict_cli.specs.Certainty.{ReportsAreCertain}
-use Rattle.nonstrict_cli.specs.Command.{command}
+use Rattle.nonstrict_cli.proofs.Ends.{answer_ends_well, ended_bytes, ended_status, stop_ends_well, not_read_fault, not_silent, not_usage, not_write_fault, text_is_written}
+use Rattle.nonstrict_cli.proofs.Telling.{written_is_told}
 use Rattle.nonstrict_cli.proofs.Rests.{no_rests, rests_of_output}
 use Rattle.nonstrict_cli.proofs.nonstrict_call.nonstrict.Goals as goal
 
@@ -34,13 +33,21 @@ pub returns-then-write_whole-clause-complete : goal.returns-then-write_whole-cla
 returns-then-write_whole-clause-complete g c =
     answer_ends_well g.S.Sink.written (map string_bytes c.args.words.now) (g.T.Tree.contents c.args.tree.now) c.in-Ok.answer c.args.sink.now c.write_whole.new.sink _ _ c.in-Ok.ensures.answer (rw (← c.as_slice.ensures.value) c.if-write_whole.ensures.whole)
 
+-- where the text of the output is written, so are lines that tell the reports
 pub returns-then-write_whole-clause-certain : goal.returns-then-write_whole-clause-certain
-returns-then-write_whole-clause-certain g c = of_folder ReportsAreCertain (g.T.Tree.contents c.args.tree.now) (command (map string_bytes c.args.words.now)) c.reports_are_certain.ensures
+returns-then-write_whole-clause-certain g c = λ answer.
+    written_is_told (g.T.Tree.contents c.args.tree.now) (map string_bytes c.args.words.now) (g.S.Sink.written c.args.sink.now) (g.S.Sink.written c.write_whole.new.sink) c.lines_tell_certain_reports.ensures
+    (text_is_written (map string_bytes c.args.words.now) (g.T.Tree.contents c.args.tree.now) c.in-Ok.answer (g.S.Sink.written c.args.sink.now) (g.S.Sink.written c.write_whole.new.sink) c.in-Ok.ensures.answer (rw (← c.as_slice.ensures.value) c.if-write_whole.ensures.whole))
+
+pub returns-in-Err-clause-certain : goal.returns-in-Err-clause-certain
+returns-in-Err-clause-certain g c =
+    rw c.into.ensures (λ answer. written_is_told (g.T.Tree.contents c.args.tree.now) (map string_bytes c.args.words.now) (g.S.Sink.written c.args.sink.now) (g.S.Sink.written c.args.sink.now) c.lines_tell_certain_reports.ensures
+    (ended_bytes (map string_bytes c.args.words.now) (g.T.Tree.contents c.args.tree.now) c.in-Err.stop (g.S.Sink.written c.args.sink.now) (λ e. c.in-Err.ensures.usage.0 (ap Err e)) (λ limit e. c.in-Err.ensures.too_large limit (ap Err e)) answer))
 
 -- nothing is given where the run ends early
 pub returns-in-Err-clause-rests : goal.returns-in-Err-clause-rests
-returns-in-Err-clause-rests g c = no_rests (g.T.Tree.contents c.args.tree.now) (map string_bytes c.args.words.now) (g.S.Sink.pieces c.args.sink.now)
+returns-in-Err-clause-rests g c = no_rests (g.T.Tree.contents c.args.tree.now) (map string_bytes c.args.words.now) (g.S.Sink.chunks c.args.sink.now)
 
 pub returns-then-write_whole-clause-rests : goal.returns-then-write_whole-clause-rests
 returns-then-write_whole-clause-rests g c =
-    rests_of_output (g.T.Tree.contents c.args.tree.now) (map string_bytes c.args.words.now) c.in-Ok.answer (g.S.Sink.pieces c.args.sink.now) (g.S.Sink.pieces c.write_whole.new.sink) c.in-Ok.ensures.answer (rw (← c.as_slice.ensures.value) c.if-write_whole.ensures.rests)
+    rests_of_output (g.T.Tree.contents c.args.tree.now) (map string_bytes c.args.words.now) c.in-Ok.answer (g.S.Sink.chunks c.args.sink.now) (g.S.Sink.chunks c.write_whole.new.sink) c.in-Ok.ensures.answer (rw (← c.as_slice.ensures.value) c.if-write_whole.ensures.rests)

@@ -1,0 +1,47 @@
+ghost use Rattle.std.specs.Prelude.{◌≡◌};
+ghost use Rattle.nonstrict_cli.specs.Reason.{reason_text};
+
+/// Why a file isn't checked.
+#[derive(Clone, Copy, Debug, PartialEq, Eq)]
+pub enum Reason {
+    /// It has more than 1,048,576 bytes.
+    FileTooLarge,
+    /// It stands for its folder.
+    DirectoryModule,
+    /// Another file has its module name.
+    RepeatedName,
+    /// A string has no end.
+    UnfinishedString,
+    /// A comment has no end.
+    UnfinishedComment,
+    /// An escape is malformed.
+    BadEscape,
+    /// What begins like a numeral isn't one.
+    BadNumeral,
+    /// A byte begins no token.
+    StrayByte,
+    /// Two braces stand directly behind one another in an interpolated string.
+    DoubleBrace,
+    /// Its tokens are not of the form that is built.
+    FormNotBuilt,
+}
+
+impl Reason {
+    /// The reason as it is told.
+    pub fn text(self) -> &'static str
+        ensures { result.now ≡ reason_text self }
+    {
+        match self {
+            Reason::FileTooLarge => "file too large",
+            Reason::DirectoryModule => "directory module",
+            Reason::RepeatedName => "repeated module name",
+            Reason::UnfinishedString => "unfinished string",
+            Reason::UnfinishedComment => "unfinished comment",
+            Reason::BadEscape => "bad escape",
+            Reason::BadNumeral => "bad numeral",
+            Reason::StrayByte => "stray byte",
+            Reason::DoubleBrace => "interpolation brace",
+            Reason::FormNotBuilt => "form not built",
+        }
+    }
+}

@@ -1,6 +1,0 @@
-use Rattle.std.proofs.Common.{◌≡◌, ◌++◌, take, vec_capacity}
-use Rattle.outside.proofs.memory.append_reserved.Given as goal
-
--- the piece so far is appended, and the room is as it was
-abbrev pub invariant-loop-byte : goal.invariant-loop-byte
-invariant-loop-byte l = (l.bytes.items ≡ l.initial.bytes.items ++ take l.byte-index l.piece) × (vec_capacity l.bytes ≡ vec_capacity l.initial.bytes)
