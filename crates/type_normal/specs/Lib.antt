@@ -9,3 +9,5 @@ pub mod Cut
 pub mod Field
 pub mod Examples
 pub mod Failing
+pub mod Adds
+pub mod Nodes
