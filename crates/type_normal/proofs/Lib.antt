@@ -9,3 +9,4 @@ pub mod Public
 pub mod NodeFacts
 pub mod AddsFacts
 pub mod ComplementFacts
+pub mod ShapeFacts

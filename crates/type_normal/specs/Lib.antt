@@ -11,3 +11,4 @@ pub mod Examples
 pub mod Failing
 pub mod Adds
 pub mod Nodes
+pub mod Shape

@@ -6,6 +6,7 @@ mod emptiness;
 pub mod examples;
 pub mod heap_laws;
 pub mod laws;
+mod shape;
 
 pub use complement::not_free;
 pub use emptiness::is_empty;
