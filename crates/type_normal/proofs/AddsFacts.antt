@@ -1,9 +1,9 @@
 -- What one node that is interned adds to an arena, where its parts come from nodes that are there.
-use Rattle.std.proofs.Common.{◌≡◌, ℕ, zero, List, [], ◌∷◌, ◌++◌, refl, sym, ap, ◌∙◌, subst, arith}
-use Rattle.std.specs.Prelude.{IsTrue, Some, None, All, Contains, Result, Ok, Err, IfOk}
+use Rattle.std.proofs.Common.{◌≡◌, ℕ, zero, List, [], ◌∷◌, refl, ap, ◌∙◌, arith}
+use Rattle.std.specs.Prelude.{IsTrue, Some, None, Contains, Result, Ok, Err, IfOk}
 use Rattle.std.proofs.lemmas.List.Elements.{All-weaker, All-nil}
 use Rattle.type_arena.specs.Arena.{home_of, nodes_of, below_of, store_of}
-use Rattle.type_arena.specs.Homes.{Reaches, itself, through, ReachesHome, by_ref, by_literal, Given, MayUse, own_home, given_literal, reached, UsesHomes, literal_homes}
+use Rattle.type_arena.specs.Homes.{itself, through, ReachesHome, by_ref, by_literal, Given, MayUse, own_home, given_literal, reached, UsesHomes, literal_homes}
 use Rattle.type_arena.specs.Meaning.{term_of}
 use Rattle.type_arena.specs.Store.{Store, node_at, has, refs_of, Keeps, with_own}
 use Rattle.type_arena.specs.declared.arena.Arena.{Arena}

@@ -1,7 +1,7 @@
 -- The node of a complement.
-use Rattle.std.proofs.Common.{◌≡◌, ℕ, ◌<◌, Bool, not, List, [], ◌∷◌, refl, sym, ap, ◌∙◌, subst, arith}
+use Rattle.std.proofs.Common.{◌≡◌, ℕ, ◌<◌, not, List, [], ◌∷◌, refl, subst, arith}
 use Rattle.std.specs.Prelude.{Some, Contains}
-use Rattle.type_arena.specs.Term.{Members, Function, Free, Term, term, Rows, strings_of, functions_of, free_of}
+use Rattle.type_arena.specs.Term.{Term, term, strings_of, functions_of, free_of}
 use Rattle.type_arena.specs.Homes.{literal_homes}
 use Rattle.type_arena.specs.Meaning.{rows_by, term_by}
 use Rattle.type_arena.specs.Store.{Store, node_at, refs_of}

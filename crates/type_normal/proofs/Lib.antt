@@ -10,3 +10,4 @@ pub mod NodeFacts
 pub mod AddsFacts
 pub mod ComplementFacts
 pub mod ShapeFacts
+pub mod RowsFacts

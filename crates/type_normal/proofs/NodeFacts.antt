@@ -1,9 +1,9 @@
 -- What nodes stand for, by their forms.
-use Rattle.std.proofs.Common.{◌≡◌, ℕ, Bool, true, false, not, List, [], ◌∷◌, refl, sym, ap, ◌∙◌, length}
-use Rattle.std.specs.Prelude.{◌||◌, ◌&&◌, ◌==◌, IsTrue, Some, Option, is_some}
-use Rattle.type_arena.specs.Term.{Term, term, Rows, no_rows, more_rows, never, strings_of, functions_of, functions_in, free_of}
-use Rattle.type_arena.specs.Store.{Store, IsSound, node_at, has}
-use Rattle.type_arena.specs.Meaning.{term_of, term_by, rows_by}
+use Rattle.std.proofs.Common.{◌≡◌, ℕ, Bool, true, false, not, List, [], ◌∷◌, refl, sym, ap, ◌∙◌}
+use Rattle.std.specs.Prelude.{◌||◌, ◌&&◌, Some}
+use Rattle.type_arena.specs.Term.{Term, term, strings_of, functions_of, free_of}
+use Rattle.type_arena.specs.Store.{Store, IsSound, node_at}
+use Rattle.type_arena.specs.Meaning.{term_of, rows_by}
 use Rattle.type_arena.specs.declared.node.Among.{Among}
 use Rattle.type_arena.specs.declared.node.Among.TheVariants.{Only, AllBut}
 use Rattle.type_arena.specs.declared.node.FnName.{FnName}
@@ -14,7 +14,7 @@ use Rattle.type_arena.proofs.MeaningLemmas.{term_of-node}
 use Rattle.type_normal.specs.Members.{is_no_set}
 use Rattle.type_normal.specs.Free.{is_no_free}
 use Rattle.type_normal.specs.Rows.{is_empty}
-use Rattle.type_normal.specs.Nodes.{is_nil, is_none, has_no_part}
+use Rattle.type_normal.specs.Nodes.{is_none, has_no_part}
 use Rattle.type_normal.proofs.MembersFacts.{and_false, and_true}
 
 pub none_strings : (s : Among (List ℕ)) → is_no_set (strings_of s) ≡ is_none s

@@ -1,11 +1,10 @@
 -- Shapes of types, part by part.
-use Rattle.std.proofs.Common.{◌≡◌, ℕ, zero, suc, ◌+◌, ◌<◌, ◌≤◌, Bool, true, false, List, [], ◌∷◌, ◌++◌, length, get_or, drop, refl, sym, ap, ◌∙◌, subst, arith}
-use Rattle.std.specs.Prelude.{◌||◌, ◌&&◌, min, max, nat_le, if◌then◌else◌, Some, None, Option, IsTrue, All, Contains}
-use Rattle.std.specs.Bool.{Decides}
+use Rattle.std.proofs.Common.{◌≡◌, ℕ, zero, suc, ◌+◌, ◌<◌, ◌≤◌, Bool, true, false, List, [], ◌∷◌, ◌++◌, length, get_or, refl, sym, ap, ◌∙◌, subst, arith}
+use Rattle.std.specs.Prelude.{◌&&◌, min, max, nat_le, if◌then◌else◌, Some, IsTrue, All}
 use Rattle.std.proofs.lemmas.List.Elements.{All-cons, All-head, All-tail}
-use Rattle.type_arena.specs.Term.{Term, term, Rows, no_rows, more_rows, Fields, no_fields, more_fields, free_of}
+use Rattle.type_arena.specs.Term.{Term, term, Rows, more_rows, Fields, more_fields}
 use Rattle.type_arena.specs.Store.{Store, IsSound, node_at, has, field_types, row_types, refs_of, is_older}
-use Rattle.type_arena.specs.Meaning.{term_of, rank, rows_by, fields_by, term_by}
+use Rattle.type_arena.specs.Meaning.{term_of, rank, rows_by, term_by}
 use Rattle.type_arena.specs.declared.node.Node.{Node}
 use Rattle.type_arena.specs.declared.node.Row.{Row}
 use Rattle.type_arena.specs.declared.node.TypeRef.{TypeRef}
@@ -14,8 +13,8 @@ use Rattle.type_arena.proofs.EqLemmas.{ref_tested}
 use Rattle.type_arena.specs.contracts.node.TypeRefPartialEq.TheImpl as TypeRefEq
 use Rattle.std.specs.HashMap.{get}
 use Rattle.type_arena.proofs.StoreLemmas.{rank-older}
-use Rattle.type_normal.specs.HeapFree.{is_bare, heap_free_rows, heap_free_fields, heap_free}
-use Rattle.type_normal.specs.Cut.{depth, depth_of_rows, depth_of_fields, count_rows, rows_have_few, fields_have_few, has_few_rows}
+use Rattle.type_normal.specs.HeapFree.{is_bare}
+use Rattle.type_normal.specs.Cut.{depth_of_rows, depth_of_fields, count_rows, rows_have_few}
 use Rattle.type_normal.specs.Shape.{no_shape, shape_of_fields, shape_of_rows, shape_of, both_shapes, as_field, as_row, ranks, Shapes, IsRight}
 use Rattle.type_normal.specs.declared.shape.Shape.{Shape}
 

@@ -1,6 +1,10 @@
 -- What a node's form says of the type that it stands for.
-use Rattle.std.specs.Prelude.{Bool, true, false, not, ◌&&◌, List, [], ◌∷◌}
-use Rattle.type_arena.specs.Term.{free_of}
+use Rattle.std.specs.Prelude.{Bool, true, false, not, ◌&&◌, List, [], ◌∷◌, filter, if◌then◌else◌}
+use Rattle.std.specs.List.{list_any}
+use Rattle.type_arena.specs.Term.{Term, free_of}
+use Rattle.type_arena.specs.Meaning.{fields_by}
+use Rattle.type_arena.specs.declared.node.TypeRef.{TypeRef}
+use Rattle.type_normal.specs.HeapFree.{heap_free_row}
 use Rattle.type_arena.specs.declared.node.Among.{Among}
 use Rattle.type_arena.specs.declared.node.Among.TheVariants.{Only, AllBut}
 use Rattle.type_arena.specs.declared.node.Node.{Node}
@@ -42,3 +46,19 @@ complement_of node = record {
   functions = swapped node.functions;
   rows = other_rows node.rows;
 }
+
+-- the row of all tables, as a node has it
+abbrev pub all_tables : Row
+all_tables = record { frozen = false; fields = [] }
+
+-- whether a row is that of all tables
+abbrev pub is_all_tables : Row → Bool
+is_all_tables row = not row.frozen && is_nil row.fields
+
+-- rows that are few: that of all tables, where it is among some rows
+abbrev pub few_rows : List Row → List Row
+few_rows rows = if list_any is_all_tables rows then all_tables ∷ [] else []
+
+-- the rows whose types, once it is known what references mean, are heap-free
+abbrev pub heap_free_ones : (TypeRef → Term) → List Row → List Row
+heap_free_ones means rows = filter (λ row. heap_free_row row.frozen (fields_by means row.fields)) rows

@@ -1,15 +1,15 @@
 -- What the rows of a type amount to: whether they are heap-free, their depth, counted up to 9, and whether they are at most
 -- 16 at every depth.
-use Rattle.std.specs.Prelude.{◌≡◌, ◌+◌, min, max, ℕ, Bool, true, false, ◌&&◌, ◌||◌, nat_le, Some, Option, List, [], ◌∷◌}
+use Rattle.std.specs.Prelude.{◌≡◌, ◌+◌, min, max, ℕ, Bool, true, ◌&&◌, ◌||◌, nat_le, Some, List, [], ◌∷◌}
 use Rattle.std.specs.HashMap.{get, HashMap}
 use Rattle.std.specs.declared.hash.FoldHasher.{FoldHasher}
 use Rattle.std.specs.declared.hash.BuildHasherDefault.{BuildHasherDefault}
-use Rattle.type_arena.specs.Term.{Term, term, Rows, no_rows, Fields}
+use Rattle.type_arena.specs.Term.{Term, term, Rows, Fields}
 use Rattle.type_arena.specs.Meaning.{term_of, rank}
 use Rattle.type_arena.specs.Store.{Store}
 use Rattle.type_arena.specs.declared.node.TypeRef.{TypeRef}
 use Rattle.type_arena.specs.contracts.node.TypeRefPartialEq.TheImpl as TypeRefEq
-use Rattle.type_normal.specs.HeapFree.{is_bare, heap_free_rows, heap_free_fields}
+use Rattle.type_normal.specs.HeapFree.{heap_free_rows, heap_free_fields}
 use Rattle.type_normal.specs.Cut.{depth_of_rows, depth_of_fields, count_rows, rows_have_few, fields_have_few}
 use Rattle.type_normal.specs.declared.shape.Shape.{Shape}
 

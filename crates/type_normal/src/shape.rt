@@ -57,7 +57,7 @@ impl Shape {
     }
 
     // Fields as those of a row.
-    fn as_row(self, row: &Row) -> Shape
+    pub(crate) fn as_row(self, row: &Row) -> Shape
         ensures { result ≡ as_row (is_nil row.now.fields) row.now.frozen self }
     {
         let bare = row.fields.as_slice().is_empty();
@@ -71,7 +71,12 @@ impl Shape {
 
 /// The shape of a type. Each node that is met is looked at once, and then remembered.
 #[cycle(shapes)]
-pub(crate) fn shape_at(alloc: Global, arena: &Arena<'_>, known: &mut Shapes, at: TypeRef) -> Result<Shape, AllocError>
+pub(crate) fn shape_at(
+    alloc: Global,
+    arena: &Arena<'_>,
+    known: &mut Shapes,
+    at: TypeRef,
+) -> Result<Shape, AllocError>
     requires there { IsTrue (has_node (store_of arena.now) at) }
     requires right { IsRight (store_of arena.now) known.old }
     ensures shape { IfOk result (λ shape. shape ≡ shape_of (term_of (store_of arena.now) at)) }
@@ -93,7 +98,12 @@ pub(crate) fn shape_at(alloc: Global, arena: &Arena<'_>, known: &mut Shapes, at:
 
 // The shape of some rows.
 #[cycle(shapes)]
-fn rows_shape(alloc: Global, arena: &Arena<'_>, known: &mut Shapes, rows: &[Row]) -> Result<Shape, AllocError>
+fn rows_shape(
+    alloc: Global,
+    arena: &Arena<'_>,
+    known: &mut Shapes,
+    rows: &[Row],
+) -> Result<Shape, AllocError>
     requires there { All (λ child. IsTrue (has_node (store_of arena.now) child)) (row_types rows.now) }
     requires right { IsRight (store_of arena.now) known.old }
     ensures shape { IfOk result (λ shape. shape ≡ shape_of_rows (rows_by (term_of (store_of arena.now)) rows.now)) }
@@ -109,7 +119,12 @@ fn rows_shape(alloc: Global, arena: &Arena<'_>, known: &mut Shapes, rows: &[Row]
 
 // The shape of some fields.
 #[cycle(shapes)]
-fn fields_shape(alloc: Global, arena: &Arena<'_>, known: &mut Shapes, fields: &[(Label, TypeRef)]) -> Result<Shape, AllocError>
+pub(crate) fn fields_shape(
+    alloc: Global,
+    arena: &Arena<'_>,
+    known: &mut Shapes,
+    fields: &[(Label, TypeRef)],
+) -> Result<Shape, AllocError>
     requires there { All (λ child. IsTrue (has_node (store_of arena.now) child)) (field_types fields.now) }
     requires right { IsRight (store_of arena.now) known.old }
     ensures shape { IfOk result (λ shape. shape ≡ shape_of_fields (fields_by (term_of (store_of arena.now)) fields.now)) }

@@ -1,17 +1,14 @@
-use Rattle.std.proofs.Common.{◌≡◌, ℕ, ◌∷◌, [], not, List, true, ap, sym, ◌∙◌, subst}
+use Rattle.std.proofs.Common.{◌≡◌, ℕ, ◌∷◌, [], ap, sym, ◌∙◌, subst}
 use Rattle.std.specs.Prelude.{Contains, IfOk}
-use Rattle.luau_values.specs.Heap.{Heap}
-use Rattle.luau_values.specs.Value.{Value}
 use Rattle.type_arena.specs.Arena.{store_of}
 use Rattle.type_arena.specs.Homes.{literal_homes}
 use Rattle.type_arena.specs.Meaning.{term_of, term_by}
 use Rattle.type_arena.specs.Store.{refs_of}
-use Rattle.type_arena.specs.Term.{Term}
 use Rattle.type_arena.specs.declared.node.Node.{Node}
 use Rattle.type_arena.specs.declared.node.TypeRef.{TypeRef}
 use Rattle.type_arena.proofs.MeaningLemmas.{term_of-node}
 use Rattle.type_normal.specs.Holds.{holds}
-use Rattle.type_normal.specs.Operations.{not_free, is_flat}
+use Rattle.type_normal.specs.Operations.{not_free}
 use Rattle.type_normal.proofs.HoldsFacts.{not_free_holds}
 use Rattle.type_normal.proofs.AddsFacts.{FromRefs, FromLiterals, ok_more, interned_adds}
 use Rattle.type_normal.proofs.ComplementFacts.{complement_means, complement_refs, complement_literals}
