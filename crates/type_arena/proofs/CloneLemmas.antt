@@ -33,19 +33,19 @@ same_name (Builtin p) (Literal a b) h = absurd h
 same_name (Literal a b) (Builtin q) h = absurd h
 same_name (Literal a b) (Literal c d) h = λ i. Literal (h.0 i) (h.1 i)
 
-same_strings : (x y : Among (List ℕ)) → (AmongClone.ghosts Label.the_row LabelClone.ghosts LabelClone.dict LabelClone.dict).is_clone x y → y ≡ x
+pub same_strings : (x y : Among (List ℕ)) → (AmongClone.ghosts Label.the_row LabelClone.ghosts LabelClone.dict LabelClone.dict).is_clone x y → y ≡ x
 same_strings (Only xs) (Only ys) h = ap Only (same_items xs ys h)
 same_strings (Only xs) (AllBut ys) h = absurd h
 same_strings (AllBut xs) (Only ys) h = absurd h
 same_strings (AllBut xs) (AllBut ys) h = ap AllBut (same_items xs ys h)
 
-same_functions : (x y : Among FnName) → (AmongClone.ghosts FnNameType.the_row FnNameClone.ghosts FnNameClone.dict FnNameClone.dict).is_clone x y → y ≡ x
+pub same_functions : (x y : Among FnName) → (AmongClone.ghosts FnNameType.the_row FnNameClone.ghosts FnNameClone.dict FnNameClone.dict).is_clone x y → y ≡ x
 same_functions (Only xs) (Only ys) h = ap Only (same_from_all_zip _ xs ys h same_name)
 same_functions (Only xs) (AllBut ys) h = absurd h
 same_functions (AllBut xs) (Only ys) h = absurd h
 same_functions (AllBut xs) (AllBut ys) h = ap AllBut (same_from_all_zip _ xs ys h same_name)
 
-same_row : (x y : Row) → RowClone.ghosts.is_clone x y → y ≡ x
+pub same_row : (x y : Row) → RowClone.ghosts.is_clone x y → y ≡ x
 same_row x y h = λ i. record { frozen = h.0 i; fields = same_pairs x.fields y.fields h.1 i }
 
 same_node : (x y : Node) → NodeClone.ghosts.is_clone x y → y ≡ x

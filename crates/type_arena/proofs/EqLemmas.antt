@@ -39,7 +39,7 @@ true_both false y h k = cc
 pair_tested : {X Y : Type 0} (first : X → X → Bool) (second : Y → Y → Bool) → TestsEqual first → TestsEqual second → TestsEqual (λ (p : X × Y) q. first p.0 q.0 && second p.1 q.1)
 pair_tested first second f s (a, b) (c, d) = (λ h. let both = both_true (first a c) (second b d) h in let e = (f a c).0 both.0 in let e' = (s b d).0 both.1 in cc, λ e. true_both (first a c) (second b d) ((f a c).1 (ap (λ p. p.0) e)) ((s b d).1 (ap (λ p. p.1) e)))
 
-ref_tested : TestsEqual TypeRefEq.ghosts.eq
+pub ref_tested : TestsEqual TypeRefEq.ghosts.eq
 ref_tested a b = (λ h. let both = both_true _ _ h in same_ref a b ((Decides-eqb a.home b.home).0 both.0) ((Decides-eqb a.id b.id).0 both.1), λ e. true_both _ _ ((Decides-eqb a.home b.home).1 (ap (λ (r : TypeRef). r.home) e)) ((Decides-eqb a.id b.id).1 (ap (λ (r : TypeRef). r.id) e)))
 
 fn_tested : TestsEqual FnNameEq.ghosts.eq

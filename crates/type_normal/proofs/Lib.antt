@@ -6,3 +6,8 @@ pub mod FreeOfFacts
 pub mod FieldFacts
 pub mod KindFacts
 pub mod Public
+pub mod NodeFacts
+pub mod AddsFacts
+pub mod ComplementFacts
+pub mod ShapeFacts
+pub mod RowsFacts

@@ -9,3 +9,6 @@ pub mod Cut
 pub mod Field
 pub mod Examples
 pub mod Failing
+pub mod Adds
+pub mod Nodes
+pub mod Shape

@@ -1,0 +1,54 @@
+ghost use Rattle.std.specs.Prelude.{◌≡◌, ◌∷◌, [], List, true, All, IsTrue, IfOk, OnErr};
+ghost use Rattle.luau_values.specs.Heap.{Heap};
+ghost use Rattle.luau_values.specs.Later.{Later};
+ghost use Rattle.luau_values.specs.Value.{Value};
+ghost use Rattle.type_arena.specs.Arena.{store_of};
+ghost use Rattle.type_arena.specs.Meaning.{term_of};
+ghost use Rattle.type_arena.specs.Store.{has as has_node, row_types};
+ghost use Rattle.type_normal.specs.Adds.{Adds};
+ghost use Rattle.type_normal.specs.HeapFree.{strip as strip_term};
+ghost use Rattle.type_normal.specs.Holds.{holds};
+ghost use Rattle.type_normal.specs.Nodes.{heap_free_ones};
+ghost use Rattle.type_normal.specs.Shape.{IsRight};
+
+use crate::rows::with_rows;
+use crate::shape::{Shapes, fields_shape};
+use std::alloc::{AllocError, Global};
+use type_arena::{Arena, List, Nodes, Row, TypeRef};
+
+/// What is left of a type after the heap may have changed: each row that isn't heap-free is dropped.
+pub fn strip(alloc: Global, arena: &mut Arena<'_>, a: TypeRef) -> Result<TypeRef, AllocError>
+    requires { IsTrue (has_node (store_of arena.old) a) }
+
+    // The result by form, and by its values: it is smaller, and its values stay values of it.
+    ensures term { IfOk result (λ at. term_of (store_of arena.new) at ≡ strip_term (term_of (store_of arena.old) a)) }
+    ensures values { IfOk result (λ at. (h : Heap) (v : Value) → holds h v (term_of (store_of arena.new) at) ≡ true → holds h v (term_of (store_of arena.old) a) ≡ true) }
+    ensures later { IfOk result (λ at. (h g : Heap) (v : Value) → Later h g → holds h v (term_of (store_of arena.new) at) ≡ true → holds g v (term_of (store_of arena.new) at) ≡ true) }
+
+    // The arena only gets nodes.
+    ensures there { IfOk result (λ at. IsTrue (has_node (store_of arena.new) at)) }
+    ensures adds { IfOk result (λ at. Adds arena.old arena.new (record { refs = a ∷ []; literals = [] }) (at ∷ [])) }
+    ensures err { OnErr result (Adds arena.old arena.new (record { refs = a ∷ []; literals = [] }) []) }
+{
+    let found = arena.node(a);
+    let rows = stable_rows(alloc, arena, found.rows.as_slice())?;
+    let node = with_rows(found, rows)?;
+    let at = arena.intern(node)?;
+    Ok(at)
+}
+
+// The rows that are heap-free.
+fn stable_rows(alloc: Global, arena: &Arena<'_>, rows: &[Row]) -> Result<List<Row>, AllocError>
+    requires { All (λ child. IsTrue (has_node (store_of arena.now) child)) (row_types rows.now) }
+    ensures { IfOk result (λ kept. kept ≡ heap_free_ones (term_of (store_of arena.now)) rows.now) }
+{
+    let mut known = Shapes::new(alloc);
+    let mut kept = Vec::new(alloc);
+    for row in rows {
+        let fields = fields_shape(alloc, arena, &mut known, row.fields.as_slice())?;
+        if fields.as_row(row).heap_free {
+            kept.push(row.clone()?)?;
+        }
+    }
+    Ok(List::of(kept))
+}
