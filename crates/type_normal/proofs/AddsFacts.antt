@@ -1,6 +1,6 @@
 -- What one node that is interned adds to an arena, where its parts come from nodes that are there.
 use Rattle.std.proofs.Common.{◌≡◌, ℕ, zero, List, [], ◌∷◌, refl, ap, ◌∙◌, arith}
-use Rattle.std.specs.Prelude.{IsTrue, Some, None, Contains, Result, Ok, Err, IfOk}
+use Rattle.std.specs.Prelude.{IsTrue, Some, None, Contains, Result, Ok, Err, IfOk, Option, is_some}
 use Rattle.std.proofs.lemmas.List.Elements.{All-weaker, All-nil}
 use Rattle.type_arena.specs.Arena.{home_of, nodes_of, below_of, store_of}
 use Rattle.type_arena.specs.Homes.{itself, through, ReachesHome, by_ref, by_literal, Given, MayUse, own_home, given_literal, reached, UsesHomes, literal_homes}
@@ -93,3 +93,11 @@ interned_adds old new refs node r below home keeps kept children literals uses =
       kept = kept;
       homes = uses_from (home_of old) (store_of old) (store_of new) refs node at children literals u;
     })
+
+-- what is there stays there
+pub there_kept : (old new : Store) (at : TypeRef) → Keeps old new → IsTrue (has old at) → IsTrue (has new at)
+there_kept old new at keeps there = go (node_at old at) refl there
+  where
+    go : (o : Option Node) → node_at old at ≡ o → IsTrue (is_some o) → IsTrue (has new at)
+    go None e there = cc
+    go (Some node) e there = ap is_some (keeps at node e)

@@ -15,3 +15,6 @@ pub use complement::not_free;
 pub use cut::{cut_down, cut_up};
 pub use emptiness::is_empty;
 pub use stripping::strip;
+
+#[cfg(test)]
+mod tests;
