@@ -1,0 +1,7 @@
+pub mod Names
+pub mod Requires
+pub mod Fates
+pub mod Levels
+pub mod Search
+pub mod Components
+pub mod Standing
