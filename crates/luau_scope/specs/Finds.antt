@@ -13,6 +13,25 @@ use Rattle.luau_scope.specs.declared.refusal.Refusal.TheVariants.{TypeFunction a
 use Rattle.luau_scope.specs.Names.{is_one_of, dotted, is_library, banned_alone, is_require, is_way}
 use Rattle.luau_scope.specs.Found.{Found, Declares, Means, Captures, Assigns, RequiresModule, Continues, Refuses, declarations, Part, nothing, one, ◌then◌, Visible, Scope, Loop, NoLoop, RepeatLoop, OtherLoop, Around, meant, same_function}
 
+-- ## Parts of a node
+
+-- the number, the span and the kind of an expression
+abbrev pub id_of : Expr → ExprId
+id_of (the_expr id span kind) = record { 0 = id }
+
+abbrev pub span_of : Expr → Span
+span_of (the_expr id span kind) = span
+
+abbrev pub kind_of : Expr → ExprKind
+kind_of (the_expr id span kind) = kind
+
+-- the name that is declared, and its span
+abbrev pub declared_name : Bind → List ℕ
+declared_name (the_bind name span typ) = name
+
+abbrev pub declared_span : Bind → Span
+declared_span (the_bind name span typ) = span
+
 -- ## Names
 
 -- what a global stands for
@@ -38,16 +57,17 @@ refused_if true why at = one (Refuses why at)
 refused_if false why at = nothing
 
 -- the use of a local, which captures it in another body than the one that declares it
-abbrev pub of_local : Around → ExprId → Visible → Part
-of_local around at v =
-    one (Means at (LocalUse (record { 0 = v.local }))) then (if same_function v.function around.function then nothing else one (Captures v.local))
+abbrev pub of_local : Around → ExprId → (local : ℕ) (function : Option FnId) → Part
+of_local around at local function =
+    one (Means at (LocalUse (record { 0 = local }))) then (if same_function function around.function then nothing else one (Captures local))
 
--- a name
+-- a name, by the local that it means: without one it is a global
+abbrev pub of_meant : Around → ExprId → Span → List ℕ → Option Visible → Part
+of_meant around at span name None = one (Means at (global_use around.paths name)) then refused (banned_alone name) span
+of_meant around at span name (Some v) = of_local around at v.local v.function
+
 abbrev pub of_name : Around → ExprId → Span → List ℕ → Part
-of_name around at span name = elim (meant around.scope name) [
-  | None ↦ one (Means at (global_use around.paths name)) then refused (banned_alone name) span
-  | Some v ↦ of_local around at v
-]
+of_name around at span name = of_meant around at span name (meant around.scope name)
 
 -- a field of a name, which is a builtin where the name is a global and the two are a builtin's path
 abbrev pub of_path : Around → ExprId → (base : ExprKind) (field : List ℕ) → Part
@@ -55,15 +75,39 @@ of_path around at (NameExpr name) field =
     if is_global around name && is_one_of around.paths (dotted name field) then one (Means at (Builtin (dotted name field))) else nothing
 of_path around at _ field = nothing
 
--- the module that a call's only argument names, where its callee is the global `require`
-abbrev pub required_way : Around → (callee : ExprKind) (args : Exprs) → Option (List ℕ)
-required_way around (NameExpr name) (more_exprs (the_expr id span (StrExpr text)) no_exprs) =
-    if is_require name && is_global around name && not (is_fixed around name) && is_way text then Some text else None
-required_way around _ _ = None
+-- the string that an expression is
+abbrev pub string_of : ExprKind → Option (List ℕ)
+string_of (StrExpr text) = Some text
+string_of _ = None
 
--- the expression's number
-abbrev pub id_of : Expr → ExprId
-id_of (the_expr id span kind) = record { 0 = id }
+-- the only one of some arguments, if it is a string
+abbrev pub only_string : Exprs → Option (List ℕ)
+only_string (more_exprs e no_exprs) = string_of (kind_of e)
+only_string _ = None
+
+-- a string, if it is a way to a module
+abbrev pub way_in : Option (List ℕ) → Option (List ℕ)
+way_in None = None
+way_in (Some text) = if is_way text then Some text else None
+
+-- whether an expression is the global that loads modules
+abbrev pub loads_modules : Around → ExprKind → Bool
+loads_modules around (NameExpr name) = is_require name && is_global around name && not (is_fixed around name)
+loads_modules around _ = false
+
+-- the way to a module that a call's only argument is, where its callee is the global `require`
+abbrev pub required_way : Around → (callee : ExprKind) (args : Exprs) → Option (List ℕ)
+required_way around callee args = if loads_modules around callee then way_in (only_string args) else None
+
+-- what a static require is, besides its arguments: the call, and its callee as a global that is not refused
+abbrev pub of_static : (way : Option (List ℕ)) (at : ExprId) (span : Span) (callee : ExprId) → Part
+of_static None at span callee = nothing
+of_static (Some text) at span callee = one (RequiresModule (record { at = at; span = span; text = text })) then one (Means callee Global)
+
+-- a part, unless a test holds
+abbrev pub unless : Bool → Part → Part
+unless true part = nothing
+unless false part = part
 
 -- ## Assignments
 
@@ -79,7 +123,7 @@ number_of (Some v) = v.local ∷ []
 
 -- the local that a target is, in a list
 abbrev pub target_local : Around → Expr → List ℕ
-target_local around (the_expr id span kind) = number_of (local_of around kind)
+target_local around e = number_of (local_of around (kind_of e))
 
 -- whether a name is a builtin's or a library's
 abbrev pub names_builtin : Around → ExprKind → Bool
@@ -89,7 +133,7 @@ names_builtin around _ = false
 -- whether an expression is a builtin or a library, or a field of one
 abbrev pub touches_builtin : Around → ExprKind → Bool
 touches_builtin around (NameExpr name) = is_fixed around name
-touches_builtin around (Index (the_expr id span base) field) = names_builtin around base
+touches_builtin around (Index base field) = names_builtin around (kind_of base)
 touches_builtin around _ = false
 
 -- an assignment to a local, after those to others in the same statement
@@ -99,13 +143,14 @@ assigned earlier (Some v) span = one (Assigns v.local) then refused_if (list_any
 
 -- a target of an assignment, apart from what is found in it as an expression
 abbrev pub aimed : Around → (earlier : List ℕ) → Expr → Part
-aimed around earlier (the_expr id span kind) =
-    refused_if (touches_builtin around kind) AssignedBuiltin span then assigned earlier (local_of around kind) span
+aimed around earlier e =
+    refused_if (touches_builtin around (kind_of e)) AssignedBuiltin (span_of e)
+    then assigned earlier (local_of around (kind_of e)) (span_of e)
 
 -- the name of a function statement is a target, but with a method it is the method that is one
 abbrev pub named_function : Around → Expr → (method : Option (List ℕ)) → Part
 named_function around path None = aimed around [] path
-named_function around (the_expr id span kind) (Some method) = refused_if (names_builtin around kind) AssignedBuiltin span
+named_function around path (Some method) = refused_if (names_builtin around (kind_of path)) AssignedBuiltin (span_of path)
 
 -- ## Declarations
 
@@ -113,13 +158,21 @@ named_function around (the_expr id span kind) (Some method) = refused_if (names_
 abbrev pub local_here : Around → List ℕ → (number : ℕ) → Visible
 local_here around name number = record { name = name; local = number; function = around.function }
 
--- with more locals in scope
-abbrev pub with_locals : Around → List Visible → Around
-with_locals around locals = record around { scope = around.scope ++ locals }
+-- the same with another scope
+abbrev pub in_scope : Around → Scope → Around
+in_scope around scope = record around { scope = scope }
 
 -- with a loop around
 abbrev pub in_loop : Around → Loop → Around
 in_loop around loop = record around { loop = loop }
+
+-- a declaration, apart from what is written of its type
+abbrev pub declared_as : Around → (given : Option ExprId) → Bind → Part
+declared_as around given bind = one (Declares (declared_name bind) (declared_span bind) around.function given)
+
+-- the scope with a declared local more, where so many are declared before it
+abbrev pub with_bind : Around → Bind → (before : ℕ) → Scope
+with_bind around bind before = around.scope ++ local_here around (declared_name bind) before ∷ []
 
 -- within a body: `...` is taken if that takes it, and all locals in scope are from outside
 abbrev pub in_body : Around → (id : ℕ) → Varargs → Around
@@ -141,7 +194,7 @@ of_entry own span = refused_if (nat_le 200 own) TooManyLocals span
 -- several locals that come into scope
 abbrev pub of_entries : (own : ℕ) → Binds → Part
 of_entries own no_binds = nothing
-of_entries own (more_binds (the_bind name span typ) rest) = of_entry own span then of_entries (own + 1) rest
+of_entries own (more_binds bind rest) = of_entry own (declared_span bind) then of_entries (own + 1) rest
 
 -- the first of some values, by its number, and the others
 abbrev pub first_value : Exprs → Option ExprId
@@ -193,57 +246,56 @@ of_repeat body until declared = without_continues body ++ (until ++ past_locals 
 abbrev mutual
   pub of_block : Around → Block → Part
   of_block around no_stats before = []
-  of_block around (more_stats stat rest) before = (of_stat around stat then of_block (behind around stat before) rest) before
+  of_block around (more_stats stat rest) before = (of_stat around stat then of_block (in_scope around (behind around stat before)) rest) before
 
-  -- what is around behind a statement: the same, with the locals that it declares
-  pub behind : Around → Stat → (before : ℕ) → Around
+  -- the scope behind a statement: with the locals that it declares
+  pub behind : Around → Stat → (before : ℕ) → Scope
   behind around (the_stat span kind) before = behind_kind around kind before
 
-  pub behind_kind : Around → StatKind → (before : ℕ) → Around
-  behind_kind around (LocalFunction (the_bind name span typ) body) before = with_locals around (local_here around name before ∷ [])
-  behind_kind around (Local binds values) before = with_locals around (numbered around binds before)
-  behind_kind around _ before = around
+  pub behind_kind : Around → StatKind → (before : ℕ) → Scope
+  behind_kind around (LocalFunction bind body) before = with_bind around bind before
+  behind_kind around (Local binds values) before = around.scope ++ numbered around binds before
+  behind_kind around _ before = around.scope
 
   -- behind all statements of a block
-  pub behind_block : Around → Block → (before : ℕ) → Around
-  behind_block around no_stats before = around
+  pub behind_block : Around → Block → (before : ℕ) → Scope
+  behind_block around no_stats before = around.scope
   behind_block around (more_stats stat rest) before =
-      behind_block (behind around stat before) rest (before + declarations (of_stat around stat before))
+      behind_block (in_scope around (behind around stat before)) rest (before + declarations (of_stat around stat before))
 
   -- the locals of a list of declarations: each has the number of locals that are declared before it
   pub numbered : Around → Binds → (before : ℕ) → List Visible
   numbered around no_binds before = []
-  numbered around (more_binds (the_bind name span typ) rest) before =
-      local_here around name before ∷ numbered around rest (suc before + declarations (of_maybe_type around typ (suc before)))
+  numbered around (more_binds bind rest) before =
+      local_here around (declared_name bind) before ∷ numbered around rest (before + declarations (of_bind around None bind before))
 
   pub of_stat : Around → Stat → Part
   of_stat around (the_stat span kind) = of_stat_kind around span kind
 
   pub of_stat_kind : Around → Span → StatKind → Part
   of_stat_kind around span (Assign targets values) before = (of_targets around [] targets then of_exprs around values) before
-  of_stat_kind around span (Compound target op e) before = (of_expr around target then (aimed around [] target then of_expr around e)) before
+  of_stat_kind around span (Compound target op e) before = (of_expr around target then aimed around [] target then of_expr around e) before
   of_stat_kind around span (CallStat e) before = of_expr around e before
   of_stat_kind around span (Do body) before = of_block around body before
   of_stat_kind around span (While cond body) before = (of_expr around cond then of_block (in_loop around OtherLoop) body) before
   of_stat_kind around span (Repeat body cond) before =
       let inside = of_block (in_loop around RepeatLoop) body before in
       let declared = before + declarations inside in
-      of_repeat inside (of_expr (behind_block (in_loop around RepeatLoop) body before) cond declared) declared
+      of_repeat inside (of_expr (in_scope around (behind_block (in_loop around RepeatLoop) body before)) cond declared) declared
   of_stat_kind around span (If arms last) before = (of_arms around arms then of_maybe_block around last) before
-  of_stat_kind around span (NumFor (the_bind name at typ) from to step body) before =
-      (of_bind around None (the_bind name at typ) then (of_expr around from then (of_expr around to then (of_maybe_expr around step
-      then (of_entry (own_locals around) at then of_block (in_loop (with_locals around (local_here around name before ∷ [])) OtherLoop) body))))) before
+  of_stat_kind around span (NumFor bind from to step body) before =
+      (of_bind around None bind then of_expr around from then of_expr around to then of_maybe_expr around step
+      then of_entry (own_locals around) (declared_span bind)
+      then of_block (in_loop (in_scope around (with_bind around bind before)) OtherLoop) body) before
   of_stat_kind around span (GenFor binds values body) before =
-      (of_binds around binds no_exprs then (of_exprs around values
-      then (of_entries (own_locals around) binds then of_block (in_loop (with_locals around (numbered around binds before)) OtherLoop) body))) before
+      (of_binds around binds no_exprs then of_exprs around values then of_entries (own_locals around) binds
+      then of_block (in_loop (in_scope around (around.scope ++ numbered around binds before)) OtherLoop) body) before
   of_stat_kind around span (FunctionStat path method body) before =
-      (of_expr around path then (named_function around path method then of_body around body)) before
-  of_stat_kind around span (LocalFunction (the_bind name at typ) body) before =
-      (one (Declares name at around.function None) then (of_entry (own_locals around) at
-      then (of_maybe_type (with_locals around (local_here around name before ∷ [])) typ
-      then of_body (with_locals around (local_here around name before ∷ [])) body))) before
+      (of_expr around path then named_function around path method then of_body around body) before
+  of_stat_kind around span (LocalFunction bind body) before =
+      (of_own_bind around bind then of_body (in_scope around (with_bind around bind before)) body) before
   of_stat_kind around span (Local binds values) before =
-      (of_binds around binds values then (of_exprs around values then of_entries (own_locals around) binds)) before
+      (of_binds around binds values then of_exprs around values then of_entries (own_locals around) binds) before
   of_stat_kind around span (TypeAlias exported name generics typ) before = (of_gens around generics then of_type around typ) before
   of_stat_kind around span (TypeFunction exported name body) before = (one (Refuses TypeFunctionRefused span) then of_body around body) before
   of_stat_kind around span (Return values) before = of_exprs around values before
@@ -253,11 +305,11 @@ abbrev mutual
   pub of_targets : Around → (earlier : List ℕ) → Exprs → Part
   of_targets around earlier no_exprs = nothing
   of_targets around earlier (more_exprs e rest) =
-      of_expr around e then (aimed around earlier e then of_targets around (earlier ++ target_local around e) rest)
+      of_expr around e then aimed around earlier e then of_targets around (earlier ++ target_local around e) rest
 
   pub of_arms : Around → Arms → Part
   of_arms around no_arms = nothing
-  of_arms around (more_arms cond body rest) = of_expr around cond then (of_block around body then of_arms around rest)
+  of_arms around (more_arms cond body rest) = of_expr around cond then of_block around body then of_arms around rest
 
   pub of_maybe_block : Around → MaybeBlock → Part
   of_maybe_block around no_block = nothing
@@ -291,9 +343,12 @@ abbrev mutual
   of_expr_kind around at span Vararg = refused_if (not around.takes) VarargOutside span
   of_expr_kind around at span (FunctionExpr body) = of_body around body
   of_expr_kind around at span (NameExpr name) = of_name around at span name
-  of_expr_kind around at span (Index base field) = of_field around at field base
+  of_expr_kind around at span (Index base field) = of_path around at (kind_of base) field then of_expr around base
   of_expr_kind around at span (At base key) = of_expr around base then of_expr around key
-  of_expr_kind around at span (Call callee args) = of_call around at span args callee then of_exprs around args
+  of_expr_kind around at span (Call callee args) =
+      (of_static (required_way around (kind_of callee) args) at span (id_of callee)
+      then unless (is_some (required_way around (kind_of callee) args)) (of_expr around callee))
+      then of_exprs around args
   of_expr_kind around at span (Method base name name_span args) = of_expr around base then of_exprs around args
   of_expr_kind around at span (Paren e) = of_expr around e
   of_expr_kind around at span (Unary op e) = of_expr around e
@@ -303,20 +358,9 @@ abbrev mutual
   of_expr_kind around at span (Interp texts parts) = of_exprs around parts
   of_expr_kind around at span (Assert e typ) = of_expr around e then of_type around typ
 
-  -- a field and its base
-  pub of_field : Around → ExprId → (field : List ℕ) → (base : Expr) → Part
-  of_field around at field (the_expr id span base) = of_path around at base field then of_expr_kind around (record { 0 = id }) span base
-
-  -- the callee of a call: that of a static require is a global that is not refused
-  pub of_call : Around → ExprId → Span → (args : Exprs) → (callee : Expr) → Part
-  of_call around at span args (the_expr id callee_span callee) = elim (required_way around callee args) [
-    | None ↦ of_expr_kind around (record { 0 = id }) callee_span callee
-    | Some text ↦ one (RequiresModule (record { at = at; span = span; text = text })) then one (Means (record { 0 = id }) Global)
-  ]
-
   pub of_choices : Around → Choices → Part
   of_choices around no_choices = nothing
-  of_choices around (more_choices cond e rest) = of_expr around cond then (of_expr around e then of_choices around rest)
+  of_choices around (more_choices cond e rest) = of_expr around cond then of_expr around e then of_choices around rest
 
   pub of_items : Around → Items → Part
   of_items around no_items = nothing
@@ -331,24 +375,26 @@ abbrev mutual
   pub of_body : Around → Body → Part
   of_body around (the_body id has_self generics params vararg result block span) before =
       let inner = in_body around id vararg in
-      let within = behind_params inner params (before + declarations (of_gens inner generics before)) in
-      (of_gens inner generics then (of_params inner params
-      then (of_varargs within vararg then (of_maybe_type within result then of_block within block)))) before
+      let within = in_scope inner (behind_params inner params (before + declarations (of_gens inner generics before))) in
+      (of_gens inner generics then of_params inner params
+      then of_varargs within vararg then of_maybe_type within result then of_block within block) before
 
-  -- each parameter is in scope from its own name on
+  -- a declaration that is in scope from its own name on
+  pub of_own_bind : Around → Bind → Part
+  of_own_bind around (the_bind name span typ) before =
+      (one (Declares name span around.function None) then of_entry (own_locals around) span
+      then of_maybe_type (in_scope around (around.scope ++ local_here around name before ∷ [])) typ) before
+
+  -- so is each parameter
   pub of_params : Around → Binds → Part
   of_params around no_binds before = []
-  of_params around (more_binds (the_bind name span typ) rest) before =
-      (one (Declares name span around.function None) then (of_entry (own_locals around) span
-      then (of_maybe_type (with_locals around (local_here around name before ∷ [])) typ
-      then of_params (with_locals around (local_here around name before ∷ [])) rest))) before
+  of_params around (more_binds bind rest) before = (of_own_bind around bind then of_params (in_scope around (with_bind around bind before)) rest) before
 
   -- behind all parameters
-  pub behind_params : Around → Binds → (before : ℕ) → Around
-  behind_params around no_binds before = around
-  behind_params around (more_binds (the_bind name span typ) rest) before =
-      behind_params (with_locals around (local_here around name before ∷ [])) rest
-      (suc before + declarations (of_maybe_type (with_locals around (local_here around name before ∷ [])) typ (suc before)))
+  pub behind_params : Around → Binds → (before : ℕ) → Scope
+  behind_params around no_binds before = around.scope
+  behind_params around (more_binds bind rest) before =
+      behind_params (in_scope around (with_bind around bind before)) rest (before + declarations (of_own_bind around bind before))
 
   pub of_varargs : Around → Varargs → Part
   of_varargs around no_varargs = nothing
@@ -380,7 +426,7 @@ abbrev mutual
   of_type_kind around span (Typeof e) = of_expr around e
   of_type_kind around span (Array typ) = of_type around typ
   of_type_kind around span (TableType props) = of_props around props
-  of_type_kind around span (Func generics params result) = of_gens around generics then (of_types around params then of_type around result)
+  of_type_kind around span (Func generics params result) = of_gens around generics then of_types around params then of_type around result
   of_type_kind around span (Union types) = of_types around types
   of_type_kind around span (Meet types) = of_types around types
   of_type_kind around span (Optional typ) = of_type around typ

@@ -25,14 +25,11 @@ pub data Found : Type 0 where
   -- the profile refuses something
   Refuses : (why : Refusal) (at : Span) → Found
 
--- whether it is a declaration
-abbrev pub is_declared : Found → Bool
-is_declared (Declares name declared function given) = true
-is_declared _ = false
-
 -- how many locals are declared
 abbrev pub declarations : List Found → ℕ
-declarations found = count_by is_declared found
+declarations [] = 0
+declarations (Declares name declared function given ∷ found) = suc (declarations found)
+declarations (other ∷ found) = declarations found
 
 -- What is found in a part of a text, in the order of the text, where so many locals are declared before the part. That
 -- number is the number of the first local of the part.
@@ -47,10 +44,13 @@ nothing before = []
 abbrev pub one : Found → Part
 one found before = found ∷ []
 
-infixr 20 ◌then◌
 -- a part, and then another
+unfoldable pub join : Part → Part → Part
+join first second before = let found = first before in found ++ second (before + declarations found)
+
+infixr 20 ◌then◌
 abbrev pub ◌then◌ : Part → Part → Part
-(first then second) before = let found = first before in found ++ second (before + declarations found)
+first then second = join first second
 
 -- a local in scope: its name, its number, and the body that declares it
 pub record Visible : Type 0 where

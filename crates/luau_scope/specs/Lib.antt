@@ -1,6 +1,7 @@
 pub mod Examples
 pub mod Finds
 pub mod Found
+pub mod Laws
 pub mod Locals
 pub mod Names
 pub mod Refusals

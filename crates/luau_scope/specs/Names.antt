@@ -1,15 +1,13 @@
 -- Which globals are builtins and libraries, by the set of declared paths, and which the profile speaks of.
-use Rattle.std.specs.Prelude.{ℕ, Bool, true, false, ◌&&◌, ◌||◌, ◌==◌, List, [], ◌∷◌, ◌++◌, Option, Some, None, if◌then◌else◌, codes}
-use Rattle.std.specs.List.{list_any}
+use Rattle.std.specs.Prelude.{ℕ, Bool, true, false, ◌&&◌, ◌||◌, ◌==◌, List, [], ◌∷◌, ◌++◌, Option, Some, None, if◌then◌else◌, codes, nat_eq}
+use Rattle.std.specs.List.{list_any, starts_with}
 use Rattle.std.specs.Str.{bytes_eq}
 use Rattle.luau_scope.specs.declared.refusal.Refusal.{Refusal}
 use Rattle.luau_scope.specs.declared.refusal.Refusal.TheVariants.{Metatable, Coroutine, Environment, DynamicRequire}
 
 -- whether some bytes are the front of others
 abbrev pub is_front : List ℕ → List ℕ → Bool
-is_front [] bytes = true
-is_front (b ∷ front) [] = false
-is_front (b ∷ front) (c ∷ bytes) = b == c && is_front front bytes
+is_front front bytes = starts_with nat_eq bytes front
 
 -- whether some bytes are among others
 abbrev pub is_one_of : List (List ℕ) → List ℕ → Bool

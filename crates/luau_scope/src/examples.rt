@@ -8,6 +8,7 @@ ghost use Rattle.luau_scope.specs.Examples.{e, name, call, body, uses, number, r
 ghost use Rattle.luau_scope.specs.Samples as sample;
 
 /// Which locals are assigned, captured and loose.
+#[tactic(auto, unfolding(crate::specs::Found::join))]
 pub fn locals_by_their_uses()
     ensures assigned_in_a_function { marks sample.loose_local ≡ (true, true, true) ∷ (false, false, false) ∷ [] }
     ensures assigned_where_declared { marks sample.assigned_parameter ≡ (false, false, false) ∷ (true, false, false) ∷ [] }
@@ -15,6 +16,7 @@ pub fn locals_by_their_uses()
 {}
 
 /// What names stand for.
+#[tactic(auto, unfolding(crate::specs::Found::join))]
 pub fn names_by_their_scopes()
     ensures library_and_path { uses sample.loose_local ≡ (35, Local (number 0)) ∷ (46, Builtin (codes "math.abs")) ∷ (47, Library) ∷ (54, Local (number 0)) ∷ [] }
     ensures own_value_is_outside { uses sample.own_value ≡ (10, Global) ∷ (19, Local (number 0)) ∷ [] }
@@ -27,6 +29,7 @@ pub fn names_by_their_scopes()
 {}
 
 /// Which expressions are a builtin for certain: a path, and a local that is given one and not assigned.
+#[tactic(auto, unfolding(crate::specs::Found::join))]
 pub fn builtins_for_certain()
     ensures path { fixed sample.two_locals 13 ≡ Some (codes "math.abs") }
     ensures given { fixed sample.two_locals 58 ≡ Some (codes "math.abs") }

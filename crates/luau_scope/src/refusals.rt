@@ -7,6 +7,7 @@ ghost use Rattle.luau_scope.specs.Examples.{e, name, num, call, body, refusal, r
 ghost use Rattle.luau_scope.specs.Samples as sample;
 
 /// Globals that are refused wherever they are used.
+#[tactic(auto, unfolding(crate::specs::Found::join))]
 pub fn globals_that_are_refused()
     ensures metatable { refusal (sample.calling (codes "setmetatable")) ≡ Some (1, Metatable) }
     ensures proxy { refusal (sample.calling (codes "newproxy")) ≡ Some (1, Metatable) }
@@ -18,6 +19,7 @@ pub fn globals_that_are_refused()
 {}
 
 /// `require` is static or refused.
+#[tactic(auto, unfolding(crate::specs::Found::join))]
 pub fn requires_that_are_static()
     ensures by_a_way { refusal sample.static_require ≡ None }
     ensures site { requires_in sample.static_require ≡ (7, codes "./a") ∷ [] }
@@ -28,6 +30,7 @@ pub fn requires_that_are_static()
 {}
 
 /// Builtins, libraries and their fields are not assigned.
+#[tactic(auto, unfolding(crate::specs::Found::join))]
 pub fn assignments_to_builtins()
     ensures field { refusal (sample.setting (sample.math_at 0 (codes "abs"))) ≡ Some (0, AssignedBuiltin) }
     ensures undeclared_field { refusal (sample.setting (sample.math_at 0 (codes "none"))) ≡ Some (0, AssignedBuiltin) }
@@ -41,6 +44,7 @@ pub fn assignments_to_builtins()
 {}
 
 /// A local stands once among the targets of an assignment, and a function has at most 200 in scope.
+#[tactic(auto, unfolding(crate::specs::Found::join))]
 pub fn locals_that_are_refused()
     ensures twice { refusal sample.twice ≡ Some (11, RepeatedTarget) }
     ensures two_hundred { refusal (sample.many_locals 200) ≡ None }
@@ -49,6 +53,7 @@ pub fn locals_that_are_refused()
 {}
 
 /// `break` and `continue` stand in loops of their own function, and a `repeat` isn't continued past a local of its `until`.
+#[tactic(auto, unfolding(crate::specs::Found::join))]
 pub fn jumps_that_are_refused()
     ensures lone_break { refusal sample.lone_break ≡ Some (0, BreakOutsideLoop) }
     ensures lone_continue { refusal sample.lone_continue ≡ Some (0, ContinueOutsideLoop) }
@@ -62,6 +67,7 @@ pub fn jumps_that_are_refused()
 {}
 
 /// `...` where it is taken, type functions, and packs of types.
+#[tactic(auto, unfolding(crate::specs::Found::join))]
 pub fn forms_that_are_refused()
     ensures in_module { refusal sample.dots_in_module ≡ None }
     ensures in_function { refusal sample.dots_in_function ≡ Some (25, VarargOutside) }
