@@ -20,7 +20,7 @@ abbrev mutual
 -- how many rows there are
 abbrev pub count_rows : Rows → ℕ
 count_rows no_rows = 0
-count_rows (more_rows frozen fields rows) = 1 + count_rows rows
+count_rows (more_rows frozen _ rows) = 1 + count_rows rows
 
 -- whether a type and the type of each field at every depth has at most this many rows
 abbrev mutual
@@ -43,7 +43,7 @@ is_small type = nat_le (depth type) 8 && has_few_rows 16 type
 abbrev pub has_any_table : Rows → Bool
 has_any_table no_rows = false
 has_any_table (more_rows false no_fields rows) = true
-has_any_table (more_rows frozen fields rows) = has_any_table rows
+has_any_table (more_rows frozen _ rows) = has_any_table rows
 
 -- a smaller type: of one that isn't kept, its free part, and the row of all tables if it is there
 abbrev pub few_values : Term → Term

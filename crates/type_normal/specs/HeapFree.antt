@@ -7,7 +7,7 @@ use Rattle.type_normal.specs.Rows.{put_row, put_normal}
 -- whether there are no fields
 abbrev pub is_bare : Fields → Bool
 is_bare no_fields = true
-is_bare (more_fields name type fields) = false
+is_bare (more_fields name type _) = false
 
 -- a type is heap-free if all its rows are; a row is if it has no fields, or is frozen and the types of all its fields are
 abbrev mutual
@@ -44,7 +44,7 @@ abbrev mutual
   pub widen_rows : Rows → Rows
   widen_rows no_rows = no_rows
   widen_rows (more_rows true fields rows) = put_normal true (widen_fields fields) (widen_rows rows)
-  widen_rows (more_rows false fields rows) = put_row false no_fields (widen_rows rows)
+  widen_rows (more_rows false _ rows) = put_row false no_fields (widen_rows rows)
 
   pub widen_fields : Fields → Fields
   widen_fields no_fields = no_fields

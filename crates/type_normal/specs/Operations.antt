@@ -40,7 +40,7 @@ abbrev mutual
 -- the row of all tables where there are no rows, and no row where there are some
 abbrev pub other_tables : Rows → Rows
 other_tables no_rows = any_table
-other_tables (more_rows frozen fields rows) = no_rows
+other_tables (more_rows frozen _ rows) = no_rows
 
 -- the values that don't belong to a type whose rows are none, or the row of all tables alone
 abbrev pub not_free : Term → Term
@@ -55,7 +55,7 @@ is_flat (term free _) = false
 -- a type with the row of all tables for its rows, where it has some
 abbrev pub with_tables : Term → Term
 with_tables (term free no_rows) = term free no_rows
-with_tables (term free (more_rows frozen fields rows)) = term free any_table
+with_tables (term free (more_rows frozen _ rows)) = term free any_table
 
 -- what fails for certain where a value of a type is wanted: no value that belongs to the type in any heap
 abbrev pub fail : Term → Term

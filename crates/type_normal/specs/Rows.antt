@@ -92,7 +92,7 @@ names_in_order (more_fields name type (more_fields next next_type fields)) = is_
 
 -- whether a row comes before the first of some rows
 abbrev pub comes_first : Bool → Fields → Rows → Bool
-comes_first frozen fields no_rows = true
+comes_first frozen _ no_rows = true
 comes_first frozen fields (more_rows next_frozen next rows) = is_lt (row_cmp frozen fields next_frozen next)
 
 -- normal form: all lists in order and without repeats, and no field that is unknown or empty, at every depth
