@@ -1,21 +1,21 @@
 -- What is found in each piece of a module matches its nodes.
-use Rattle.std.proofs.Common.{◌≡◌, ◌≤◌, ℕ, zero, suc, ◌+◌, Bool, true, false, List, [], ◌∷◌, ◌++◌, map, refl, sym, ap, ◌∙◌, subst, arith, append_assoc}
-use Rattle.std.specs.Prelude.{Option, Some, None, if◌then◌else◌, not, ◌&&◌}
+use Rattle.std.proofs.Common.{◌≡◌, ◌≤◌, ℕ, suc, ◌+◌, Bool, true, false, List, [], ◌∷◌, ◌++◌, map, refl, sym, ap, ◌∙◌, arith, append_assoc}
+use Rattle.std.specs.Prelude.{Option, Some, None, if◌then◌else◌, ◌&&◌}
 use Rattle.std.specs.Option.{is_some}
 use Rattle.std.specs.List.{filter_map}
 use Rattle.luau_tree.specs.declared.position.Span.{Span}
 use Rattle.luau_tree.specs.declared.names.ExprId.{ExprId}
 use Rattle.luau_tree.specs.Tree.{Block, no_stats, more_stats, Stat, the_stat, StatKind, Assign, Compound, CallStat, Do, While, Repeat, If, NumFor, GenFor, FunctionStat, LocalFunction, Local, TypeAlias, TypeFunction, Return, Break, Continue, Arms, no_arms, more_arms, MaybeBlock, no_block, a_block, Expr, the_expr, Exprs, no_exprs, more_exprs, MaybeExpr, no_expr, an_expr, ExprKind, NilExpr, TrueExpr, FalseExpr, NumberExpr, StrExpr, Vararg, FunctionExpr, NameExpr, Index, At, Call, Method, Paren, Unary, Binary, IfElse, TableExpr, Interp, Assert, Choices, no_choices, more_choices, Item, Field, Keyed, Plain, Items, no_items, more_items, Body, the_body, Varargs, no_varargs, varargs, Bind, the_bind, Binds, no_binds, more_binds, Gen, the_gen, Gens, no_gens, more_gens, TypeSyntax, the_type, TypeSyntaxes, no_types, more_types, MaybeType, no_type, a_type, TypeKind, NilType, BoolType, StrType, Named, Typeof, Array, TableType, Func, Union, Meet, Optional, Pack, Variadic, GenericPack, Prop, the_prop, Props, no_props, more_props, PropKey, NameKey, Indexer}
-use Rattle.luau_tree.specs.Nodes.{Node, AnExpr, ABody, ABind, exprs_among, exprs_in, binds_in, expr_number, nodes_of_block, nodes_of_stat, nodes_of_stat_kind, nodes_of_arms, nodes_of_maybe_block, nodes_of_expr, nodes_of_exprs, nodes_of_maybe_expr, nodes_of_expr_kind, nodes_of_choices, nodes_of_items, nodes_of_item, nodes_of_body, nodes_of_varargs, nodes_of_bind, nodes_of_binds, nodes_of_gen, nodes_of_gens, nodes_of_type, nodes_of_types, nodes_of_maybe_type, nodes_of_type_kind, nodes_of_props, nodes_of_prop, nodes_of_prop_key}
+use Rattle.luau_tree.specs.Nodes.{Node, AnExpr, ABody, ABind, exprs_in, binds_in, expr_number, nodes_of_block, nodes_of_stat, nodes_of_stat_kind, nodes_of_arms, nodes_of_maybe_block, nodes_of_expr, nodes_of_exprs, nodes_of_maybe_expr, nodes_of_expr_kind, nodes_of_choices, nodes_of_items, nodes_of_item, nodes_of_body, nodes_of_varargs, nodes_of_bind, nodes_of_binds, nodes_of_gen, nodes_of_gens, nodes_of_type, nodes_of_types, nodes_of_maybe_type, nodes_of_type_kind, nodes_of_props, nodes_of_prop, nodes_of_prop_key}
 use Rattle.luau_scope.specs.declared.reading.Use.{Use}
 use Rattle.luau_scope.specs.declared.reading.Use.TheVariants.{Global}
 use Rattle.luau_scope.specs.Names.{is_one_of, dotted}
-use Rattle.luau_scope.specs.Found.{Found, Declares, Means, Captures, Assigns, RequiresModule, Continues, Refuses, declarations, Part, nothing, one, join, ◌then◌, Visible, Around, Loop, NoLoop, RepeatLoop, OtherLoop, meant, same_function}
+use Rattle.luau_scope.specs.Found.{Found, Declares, Means, Captures, Assigns, RequiresModule, Continues, Refuses, declarations, Part, nothing, one, join, ◌then◌, Visible, Around, RepeatLoop, OtherLoop, meant, same_function}
 use Rattle.luau_scope.specs.Finds as finds
 use Rattle.luau_scope.specs.Finds.{of_block, of_stat, of_stat_kind, of_targets, of_arms, of_maybe_block, of_binds, of_bind, of_expr, of_exprs, of_maybe_expr, of_expr_kind, of_choices, of_items, of_item, of_body, of_own_bind, of_params, of_varargs, of_gens, of_gen, of_type, of_types, of_maybe_type, of_type_kind, of_props, of_prop, of_key, of_name, of_local, of_path, of_static, unless, required_way, id_of, kind_of, in_scope, in_loop, in_body, with_bind, of_entry, behind, behind_block, behind_params, numbered, around_module, found_in, own_locals, declared_span}
 use Rattle.luau_scope.specs.Laws.{Within, none, both, left_out, AscendFrom, name_numbers, bind_name_and_span, local_name_and_span}
-use Rattle.luau_scope.specs.Locals.{uses_of, locals_of, locals_from, locals_in, a_use, an_assigned, a_captured}
-use Rattle.luau_scope.proofs.Matches.{Match, met, declared, ids, named, bound, match_append, match_join, match_then_quiet, around_node, quiet_nothing, quiet_refused, quiet_refused_if, quiet_aimed, quiet_named_function, quiet_entry, quiet_entries, quiet_break, quiet_continue, match_repeat}
+use Rattle.luau_scope.specs.Locals.{uses_of, locals_of, locals_from, a_use, an_assigned, a_captured}
+use Rattle.luau_scope.proofs.Matches.{Match, met, declared, ids, named, bound, match_join, match_then_quiet, around_node, quiet_nothing, quiet_refused, quiet_refused_if, quiet_aimed, quiet_named_function, quiet_entry, quiet_entries, quiet_break, quiet_continue, match_repeat}
 
 -- the nodes of an expression that is a name
 abbrev name_node : ℕ → Span → List ℕ → List Node

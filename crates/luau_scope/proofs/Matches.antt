@@ -1,16 +1,13 @@
 -- Findings match nodes: the uses are those of names and some other expressions, and what is declared is what is bound.
-use Rattle.std.proofs.Common.{◌≡◌, ◌≤◌, ℕ, suc, ◌+◌, Bool, true, false, List, [], ◌∷◌, ◌++◌, map, refl, sym, ap, ◌∙◌, subst, arith}
+use Rattle.std.proofs.Common.{◌≡◌, ℕ, ◌+◌, Bool, true, false, List, [], ◌∷◌, ◌++◌, map, refl, sym, ap, ◌∙◌, subst}
 use Rattle.std.specs.Prelude.{Option, Some, None, if◌then◌else◌}
 use Rattle.std.proofs.lemmas.List.{append-nil}
 use Rattle.luau_tree.specs.declared.position.Span.{Span}
-use Rattle.luau_tree.specs.declared.names.ExprId.{ExprId}
-use Rattle.luau_tree.specs.declared.names.FnId.{FnId}
-use Rattle.luau_tree.specs.Tree.{Expr, the_expr, ExprKind, NameExpr, Bind, the_bind, Binds, no_binds, more_binds}
+use Rattle.luau_tree.specs.Tree.{Expr, the_expr, NameExpr, Binds, no_binds, more_binds}
 use Rattle.luau_tree.specs.Nodes.{Node, AnExpr, ABody, ABind, exprs_among, binds_among, expr_number}
 use Rattle.luau_scope.specs.declared.refusal.Refusal.{Refusal}
-use Rattle.luau_scope.specs.declared.reading.Use.{Use}
-use Rattle.luau_scope.specs.Found.{Found, Declares, Means, Captures, Assigns, RequiresModule, Continues, Refuses, declarations, Part, nothing, one, join, Visible, Around, Loop, NoLoop, RepeatLoop, OtherLoop}
-use Rattle.luau_scope.specs.Finds.{refused, refused_if, aimed, assigned, touches_builtin, local_of, kind_of, span_of, named_function, names_builtin, of_entry, of_entries, declared_span, of_break, of_continue, without_continues, past_locals, uses_between, of_repeat}
+use Rattle.luau_scope.specs.Found.{Found, Declares, Means, Captures, Assigns, RequiresModule, Continues, Refuses, declarations, Part, join, Visible, Around, Loop, NoLoop, RepeatLoop, OtherLoop}
+use Rattle.luau_scope.specs.Finds.{refused, refused_if, aimed, assigned, local_of, kind_of, span_of, named_function, of_entry, of_entries, declared_span, of_break, of_continue, without_continues, past_locals, uses_between, of_repeat}
 use Rattle.luau_scope.specs.Laws.{Within, none, both, left_out, name_numbers, bind_name_and_span}
 
 -- the numbers of the expressions that have a use, and what is declared

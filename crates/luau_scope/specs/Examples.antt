@@ -1,13 +1,13 @@
 -- Small modules, written as trees.
-use Rattle.std.specs.Prelude.{ℕ, ◌+◌, List, [], ◌∷◌, Option, Some, None, codes, map, true, false, Bool}
+use Rattle.std.specs.Prelude.{ℕ, ◌+◌, List, [], ◌∷◌, Option, codes, map, false, Bool}
 use Rattle.std.specs.Option.{option_map}
 use Rattle.luau_tree.specs.declared.position.Span.{Span}
-use Rattle.luau_tree.specs.Tree.{Block, no_stats, more_stats, the_stat, StatKind, Assign, CallStat, Do, While, Repeat, Local, LocalFunction, FunctionStat, Return, Expr, the_expr, Exprs, no_exprs, more_exprs, ExprKind, NumberExpr, StrExpr, NameExpr, Index, Call, FunctionExpr, Body, the_body, Varargs, no_varargs, Bind, the_bind, Binds, no_binds, more_binds, no_gens, no_type}
+use Rattle.luau_tree.specs.Tree.{Block, no_stats, more_stats, the_stat, StatKind, Expr, the_expr, Exprs, no_exprs, more_exprs, ExprKind, NumberExpr, NameExpr, Call, Body, the_body, no_varargs, the_bind, Binds, no_binds, more_binds, no_gens, no_type}
 use Rattle.luau_scope.specs.declared.refusal.Refusal.{Refusal}
-use Rattle.luau_scope.specs.declared.reading.LocalInfo.{LocalInfo}
 use Rattle.luau_scope.specs.declared.reading.Use.{Use}
 use Rattle.luau_tree.specs.declared.names.LocalId.{LocalId}
 use Rattle.luau_scope.specs.Locals.{uses_of, locals_of, requires_of, fixed_at}
+use Rattle.luau_scope.specs.Captured.{captured_of}
 use Rattle.luau_scope.specs.Refusals.{refusal_of}
 
 -- a piece of text that begins at an offset; its end plays no part
@@ -75,3 +75,7 @@ fixed kinds at = fixed_at (uses_of only_abs (stats kinds)) (locals_of only_abs (
 -- the static requires: by the numbers of their calls
 abbrev pub requires_in : List (ℕ × StatKind) → List (ℕ × List ℕ)
 requires_in kinds = map (λ r. (r.at.0, r.text)) (requires_of only_abs (stats kinds))
+
+-- the captured locals of each body
+abbrev pub captures : List (ℕ × StatKind) → List (List ℕ)
+captures kinds = captured_of only_abs (stats kinds)

@@ -1,9 +1,10 @@
 -- Words for the laws: what a list of nodes and a list of findings say, and orders of numbers.
-use Rattle.std.specs.Prelude.{◌≡◌, ◌≤◌, ⊤, ℕ, suc, ◌+◌, List, [], ◌∷◌, ◌++◌, map}
+use Rattle.std.specs.Prelude.{◌≡◌, ◌≤◌, ◌⊎◌, ⊤, ℕ, suc, false, List, [], ◌∷◌, Option, Some, None}
 use Rattle.luau_tree.specs.declared.position.Span.{Span}
-use Rattle.luau_tree.specs.Tree.{Expr, the_expr, ExprKind, NameExpr, Bind, the_bind}
-use Rattle.luau_tree.specs.Nodes.{Node, AnExpr, ABody, ABind}
+use Rattle.luau_tree.specs.Tree.{Expr, the_expr, NameExpr, Bind, the_bind}
 use Rattle.luau_scope.specs.declared.reading.LocalInfo.{LocalInfo}
+use Rattle.luau_scope.specs.Refusals.{Refused, comes_before}
+use Rattle.std.specs.List.{AllByRecursion}
 
 -- numbers ascend, from a lowest one on
 abbrev pub AscendFrom : ℕ → List ℕ → Type 0
@@ -28,3 +29,14 @@ bind_name_and_span (the_bind name span typ) = (name, span)
 
 abbrev pub local_name_and_span : LocalInfo → List ℕ × Span
 local_name_and_span local = (local.name, local.declared)
+
+-- a refusal is one of some
+abbrev pub IsOneOf : Refused → List Refused → Type 0
+IsOneOf r [] = ⊥
+IsOneOf r (s ∷ refusals) = (r ≡ s) ⊎ IsOneOf r refusals
+
+-- a refusal is one of some and none comes before it, or there is none
+abbrev pub IsEarliest : List Refused → Option Refused → Type 0
+IsEarliest [] None = ⊤
+IsEarliest (s ∷ refusals) None = ⊥
+IsEarliest refusals (Some r) = IsOneOf r refusals × AllByRecursion (λ s. comes_before s r ≡ false) refusals

@@ -1,3 +1,4 @@
+pub mod Captured
 pub mod Examples
 pub mod Finds
 pub mod Found

@@ -1,11 +1,11 @@
 -- The locals of a module, what its names stand for, and its static requires.
-use Rattle.std.specs.Prelude.{◌≡◌, ℕ, suc, ◌==◌, ◌&&◌, not, Bool, true, false, List, [], ◌∷◌, Option, Some, None, if◌then◌else◌, slice_get}
+use Rattle.std.specs.Prelude.{ℕ, suc, ◌==◌, ◌&&◌, Bool, List, [], ◌∷◌, Option, Some, None, if◌then◌else◌, slice_get}
 use Rattle.std.specs.Option.{option_and_then}
 use Rattle.std.specs.List.{filter_map, list_any}
 use Rattle.luau_tree.specs.declared.names.ExprId.{ExprId}
 use Rattle.luau_tree.specs.Tree.{Block}
 use Rattle.luau_scope.specs.declared.reading.Use.{Use}
-use Rattle.luau_scope.specs.declared.reading.Use.TheVariants.{Local, Builtin, Library, Global}
+use Rattle.luau_scope.specs.declared.reading.Use.TheVariants.{Local, Builtin}
 use Rattle.luau_scope.specs.declared.reading.LocalInfo.{LocalInfo}
 use Rattle.luau_scope.specs.declared.reading.RequireSite.{RequireSite}
 use Rattle.luau_scope.specs.Found.{Found, Declares, Means, Captures, Assigns, RequiresModule}

@@ -1,7 +1,6 @@
 -- Small modules, each with its text. The number of an expression is its offset.
-use Rattle.std.specs.Prelude.{ℕ, zero, suc, ◌+◌, List, [], ◌∷◌, ◌++◌, Option, Some, None, codes, true, false}
-use Rattle.luau_tree.specs.Tree.{StatKind, Assign, Compound, CallStat, Do, While, Repeat, Local, LocalFunction, FunctionStat, NumFor, Return, Break, Continue, If, no_arms, more_arms, no_block, TypeAlias, TypeFunction, Expr, ExprKind, StrExpr, NameExpr, Index, At, Method, FunctionExpr, Paren, Vararg, no_expr, the_bind, more_binds, no_binds, no_gens, more_gens, the_gen, a_type, no_type, the_type, Typeof, GenericPack, the_body, varargs, no_varargs}
-use Rattle.luau_tree.specs.declared.names.BinOp.TheVariants.{Add}
+use Rattle.std.specs.Prelude.{ℕ, zero, suc, ◌+◌, List, [], ◌∷◌, ◌++◌, Some, None, codes, true, false}
+use Rattle.luau_tree.specs.Tree.{StatKind, Assign, CallStat, Do, While, Repeat, Local, LocalFunction, FunctionStat, Return, Break, Continue, If, no_arms, more_arms, no_block, TypeAlias, TypeFunction, Expr, StrExpr, Index, FunctionExpr, Paren, Vararg, the_bind, more_binds, no_binds, no_gens, more_gens, the_gen, a_type, no_type, the_type, Typeof, GenericPack, the_body, varargs, no_varargs}
 use Rattle.luau_scope.specs.Examples.{from, e, name, num, exprs, binds, stats, body, call}
 
 abbrev pub Sample : Type 0
@@ -186,3 +185,8 @@ type_function = (0, TypeFunction false f (body 0 [] (return_at 20 (name 27 (code
 -- `setmetatable(x) break`
 abbrev pub metatable_then_break : Sample
 metatable_then_break = calling (codes "setmetatable") ++ ((16, Break) ∷ [])
+
+-- `local x = 1`, `return function(a) return function() return x + a end end`, where the sum plays no part
+abbrev pub nested : Sample
+nested = local_at 0 x (num 10) ∷ return_at 12 (e 19 (FunctionExpr (body 0 ((28, a) ∷ [])
+    (return_at 31 (e 38 (FunctionExpr (body 1 [] ((49, Return (exprs (name 56 x ∷ name 60 a ∷ []))) ∷ [])))) ∷ [])))) ∷ []

@@ -4,7 +4,7 @@ ghost use Rattle.std.specs.Prelude.{◌≡◌, [], ◌∷◌, Some, None, true, 
 ghost use Rattle.luau_tree.specs.Tree.{Index, At, StrExpr, FunctionExpr, no_binds};
 ghost use Rattle.luau_scope.specs.declared.reading.Use.TheVariants.{Local, Builtin, Library, Global};
 ghost use Rattle.luau_scope.specs.declared.refusal.Refusal.TheVariants.{Metatable, Coroutine, Environment, DynamicRequire, TypeFunction, GenericPack, AssignedBuiltin, RepeatedTarget, TooManyLocals, BreakOutsideLoop, ContinueOutsideLoop, ContinuePastLocal, VarargOutside};
-ghost use Rattle.luau_scope.specs.Examples.{e, name, call, body, uses, number, refusal, marks, fixed};
+ghost use Rattle.luau_scope.specs.Examples.{uses, number, captures, marks, fixed};
 ghost use Rattle.luau_scope.specs.Samples as sample;
 
 /// Which locals are assigned, captured and loose.
@@ -35,4 +35,13 @@ pub fn builtins_for_certain()
     ensures given { fixed sample.two_locals 58 ≡ Some (codes "math.abs") }
     ensures library { fixed sample.two_locals 14 ≡ None }
     ensures parameter { fixed sample.two_locals 44 ≡ None }
+{}
+
+/// Which locals from outside a body uses: what it declares itself is none of them, nor what another body uses.
+#[tactic(auto, unfolding(crate::specs::Found::join))]
+pub fn captured_locals()
+    ensures assigned { captures sample.loose_local ≡ (0 ∷ []) ∷ [] }
+    ensures own_parameter { captures sample.assigned_parameter ≡ [] ∷ [] }
+    ensures own_header { captures sample.header ≡ (0 ∷ []) ∷ [] }
+    ensures of_inner_function { captures sample.nested ≡ (0 ∷ []) ∷ (0 ∷ 1 ∷ []) ∷ [] }
 {}
