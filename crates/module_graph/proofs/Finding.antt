@@ -136,3 +136,18 @@ module _ (files : List ModuleNeeds) (ordered : AreOrdered files) (name : List �
       position-at (has_name name) files i h.0 h.1
       (ap (λ b. b || bytes_eq h.0.path (name ++ codes ".luau")) (position-none (λ (file : ModuleNeeds). bytes_eq file.path (name ++ codes ".lua")) files none i h.0 h.1) ∙ h.2)
       (λ k y lt at. ap (λ b. b || bytes_eq y.path (name ++ codes ".luau")) (position-none (λ (file : ModuleNeeds). bytes_eq file.path (name ++ codes ".lua")) files none k y at) ∙ h.3 k y lt at)
+
+-- one more path above the last keeps paths in order
+pub ordered-more : (files : List ModuleNeeds) (i : ℕ) (x y : ModuleNeeds) → 0 < i → slice_get files (i - 1) ≡ Some x → slice_get files i ≡ Some y → slice_cmp nat_cmp x.path y.path ≡ Less → ((k j : ℕ) (d : ModuleNeeds) → k < j → j < i → slice_cmp nat_cmp (get_or files k d).path (get_or files j d).path ≡ Less) → (k j : ℕ) (d : ModuleNeeds) → k < j → j < i + 1 → slice_cmp nat_cmp (get_or files k d).path (get_or files j d).path ≡ Less
+ordered-more files i x y pos ex ey less before k j d kj ji = elim (cases_lt j i) [
+  | inl lt ↦ before k j d kj lt
+  | inr le ↦
+      (let at : j ≡ i = omega arith in
+      let fy : get_or files j d ≡ y = ap (λ (n : ℕ). get_or files n d) at ∙ get_or_from_slice_get files i y d ey in
+      let fx : get_or files (i - 1) d ≡ x = get_or_from_slice_get files (i - 1) x d ex in
+      let last : slice_cmp nat_cmp x.path (get_or files j d).path ≡ Less = ap (λ (f : ModuleNeeds). slice_cmp nat_cmp x.path f.path) fy ∙ less in
+      elim (cases_lt k (i - 1)) [
+        | inl earlier ↦ nat_list_cmp_total.trans (get_or files k d).path x.path (get_or files j d).path (ap (λ (f : ModuleNeeds). slice_cmp nat_cmp (get_or files k d).path f.path) (sym fx) ∙ before k (i - 1) d earlier (omega arith)) last
+        | inr same ↦ (let place : k ≡ i - 1 = omega arith in ap (λ (f : ModuleNeeds). slice_cmp nat_cmp f.path (get_or files j d).path) (ap (λ (n : ℕ). get_or files n d) place ∙ fx) ∙ last)
+      ])
+]

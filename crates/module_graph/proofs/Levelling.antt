@@ -14,7 +14,7 @@ use Rattle.module_graph.specs.Requires.{calls_at, refused_at, Requires, HasChain
 use Rattle.module_graph.specs.Fates.{IsRefused, already, misses, cyclic, IsSkipped, by_refused, by_skipped, IsLevel, IsFate, AreFates}
 use Rattle.module_graph.specs.Levels.{is_checked_at, level_from, AreDense, AreLevels, IsCount}
 use Rattle.module_graph.specs.Search.{IsGraph}
-use Rattle.module_graph.proofs.Lists.{get-below, slice_get-take, slice_get-taken}
+use Rattle.module_graph.proofs.Lists.{get-below, slice_get-take, slice_get-taken, Contains-from_get, get-from_contains}
 
 -- a module is checked at a level exactly where the test says so
 at_level : (level own : ℕ) (needs : List ℕ) → level ≡ own → is_checked_at level (Checked own needs) ≡ true
@@ -223,3 +223,62 @@ unchecked level (Checked own needs) none = absurd (none own needs refl)
 unchecked level Already none = refl
 unchecked level (Refused why at) none = refl
 unchecked level (Skipped at needs) none = refl
+
+-- a module stands in the list of its level, and nowhere else
+pub level_from-has : (level start : ℕ) (fates : List Fate) (file : ℕ) (needs : List ℕ) → slice_get fates file ≡ Some (Checked level needs) → (k : ℕ) × (slice_get (level_from level start fates) k ≡ Some (start + file))
+level_from-has level start [] file needs e = cc
+level_from-has level start (fate ∷ fates) zero needs e =
+    let same : fate ≡ Checked level needs = cc in
+    let test : is_checked_at level fate ≡ true = ap (λ f. is_checked_at level f) same ∙ own_level level needs in
+    let first : level_from level start (fate ∷ fates) ≡ start ∷ level_from level (start + 1) fates = ap (λ b. if b then start ∷ level_from level (start + 1) fates else level_from level (start + 1) fates) test in
+    let place : start ≡ start + 0 = omega arith in
+    (0, ap (λ l. slice_get l 0) first ∙ ap Some place)
+level_from-has level start (fate ∷ fates) (suc file) needs e =
+    let h = level_from-has level (start + 1) fates file needs e in
+    let place : start + 1 + file ≡ start + suc file = omega arith in
+    go (is_checked_at level fate) refl h.0 (h.1 ∙ ap Some place)
+  where
+    go : (test : Bool) → is_checked_at level fate ≡ test → (k : ℕ) → slice_get (level_from level (start + 1) fates) k ≡ Some (start + suc file) → (k : ℕ) × (slice_get (level_from level start (fate ∷ fates)) k ≡ Some (start + suc file))
+    go true t k at = (suc k, ap (λ b. slice_get (if b then start ∷ level_from level (start + 1) fates else level_from level (start + 1) fates) (suc k)) t ∙ at)
+    go false t k at = (k, ap (λ b. slice_get (if b then start ∷ level_from level (start + 1) fates else level_from level (start + 1) fates) k) t ∙ at)
+
+pub level_from-is : (level start : ℕ) (fates : List Fate) (k file : ℕ) → slice_get (level_from level start fates) k ≡ Some file → (i : ℕ) × (needs : List ℕ) × (file ≡ start + i) × (slice_get fates i ≡ Some (Checked level needs))
+level_from-is level start [] k file e = cc
+level_from-is level start (fate ∷ fates) k file e = go (is_checked_at level fate) refl k e (λ j at. level_from-is level (start + 1) fates j file at)
+  where
+    go : (test : Bool) → is_checked_at level fate ≡ test → (k : ℕ) → slice_get (level_from level start (fate ∷ fates)) k ≡ Some file → ((j : ℕ) → slice_get (level_from level (start + 1) fates) j ≡ Some file → (i : ℕ) × (needs : List ℕ) × (file ≡ start + 1 + i) × (slice_get fates i ≡ Some (Checked level needs))) → (i : ℕ) × (needs : List ℕ) × (file ≡ start + i) × (slice_get (fate ∷ fates) i ≡ Some (Checked level needs))
+    go true t zero at further =
+        let first : slice_get (level_from level start (fate ∷ fates)) 0 ≡ Some start = ap (λ b. slice_get (if b then start ∷ level_from level (start + 1) fates else level_from level (start + 1) fates) 0) t in
+        let both : Some start ≡ Some file = sym first ∙ at in
+        let same : start ≡ file = cc in
+        let h = checked-at level fate t in
+        (0, h.0, omega arith, ap Some h.1)
+    go true t (suc j) at further =
+        let next : slice_get (level_from level start (fate ∷ fates)) (suc j) ≡ slice_get (level_from level (start + 1) fates) j = ap (λ b. slice_get (if b then start ∷ level_from level (start + 1) fates else level_from level (start + 1) fates) (suc j)) t in
+        let h = further j (sym next ∙ at) in
+        let place : file ≡ start + 1 + h.0 = h.2 in
+        (suc h.0, h.1, omega arith, h.3)
+    go false t k at further =
+        let next : slice_get (level_from level start (fate ∷ fates)) k ≡ slice_get (level_from level (start + 1) fates) k = ap (λ b. slice_get (if b then start ∷ level_from level (start + 1) fates else level_from level (start + 1) fates) k) t in
+        let h = further k (sym next ∙ at) in
+        let place : file ≡ start + 1 + h.0 = h.2 in
+        (suc h.0, h.1, omega arith, h.3)
+
+-- a checked module is listed in its level
+pub listed-at : (fates : List Fate) (levels : List (List ℕ)) → AreLevels fates levels → (file level : ℕ) (needs : List ℕ) → slice_get fates file ≡ Some (Checked level needs) → (modules : List ℕ) × (slice_get levels level ≡ Some modules) × Contains modules file
+listed-at fates levels are file level needs e = elim (cases_lt level (length levels)) [
+  | inl within ↦
+      (let modules = get-below levels level within in
+      let k = level_from-has level 0 fates file needs e in
+      let place : 0 + file ≡ file = omega arith in
+      (modules.0, modules.1, Contains-from_get modules.0 k.0 file (ap (λ (l : List ℕ). slice_get l k.0) (are.each level modules.0 modules.1) ∙ (k.1 ∙ ap Some place))))
+  | inr past ↦ absurd (level_from-some level 0 fates file needs e (are.all level past))
+]
+
+-- what is listed in a level is checked there
+pub checked-listed : (fates : List Fate) (levels : List (List ℕ)) → AreLevels fates levels → (file level : ℕ) (modules : List ℕ) → slice_get levels level ≡ Some modules → Contains modules file → (needs : List ℕ) × (slice_get fates file ≡ Some (Checked level needs))
+checked-listed fates levels are file level modules e has =
+    let k = get-from_contains modules file has in
+    let h = level_from-is level 0 fates k.0 file (ap (λ (l : List ℕ). slice_get l k.0) (sym (are.each level modules e)) ∙ k.1) in
+    let place : h.0 ≡ file = (let at = h.2 in omega arith) in
+    (h.1, ap (λ i. slice_get fates i) (sym place) ∙ h.3)

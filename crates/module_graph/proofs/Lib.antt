@@ -16,3 +16,5 @@ pub mod Levelling
 pub mod Graphs
 pub mod Walking
 pub mod Finding
+pub mod Unique
+pub mod Reordering

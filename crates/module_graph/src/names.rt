@@ -70,7 +70,7 @@ fn joined(alloc: Global, parts: &[&[u8]]) -> Result<Vec<u8>, AllocError>
 }
 
 /// How a file's path compares with another path.
-fn path_cmp(file: &ModuleNeeds, path: &[u8]) -> Ordering
+pub fn path_cmp(file: &ModuleNeeds, path: &[u8]) -> Ordering
     ensures { result ≡ slice_cmp nat_cmp file.now.path path.now }
 {
     file.path.as_slice().cmp(path)
