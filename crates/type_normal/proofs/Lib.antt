@@ -12,3 +12,4 @@ pub mod ComplementFacts
 pub mod ShapeFacts
 pub mod RowsFacts
 pub mod TypeTermFacts
+pub mod ListingFacts

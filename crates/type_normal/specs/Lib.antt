@@ -13,3 +13,4 @@ pub mod Adds
 pub mod Nodes
 pub mod Shape
 pub mod TypeTerm
+pub mod Listing
