@@ -77,16 +77,3 @@ fn small_types_are_kept_and_complements_turn_back(rt: HostRuntime) -> Result<(),
     assert_eq!(rt; again, nil);
     Ok(())
 }
-
-#[test]
-fn rows_that_list_the_name_are_dropped(rt: HostRuntime) -> Result<(), Fail> {
-    let alloc = rt.alloc();
-    let x = Label::of(vec![in alloc; b'x']?);
-    let y = Label::of(vec![in alloc; b'y']?);
-    let (mut arena, tables) = arena_with_x(alloc, false)?;
-    let same = strip_at(alloc, &mut arena, tables, &y)?;
-    assert_eq!(rt; same, tables);
-    let left = strip_at(alloc, &mut arena, same, &x)?;
-    assert!(rt; is_empty(&arena, left));
-    Ok(())
-}
