@@ -11,3 +11,5 @@ pub mod AddsFacts
 pub mod ComplementFacts
 pub mod ShapeFacts
 pub mod RowsFacts
+pub mod TypeTermFacts
+pub mod ListingFacts

@@ -119,19 +119,19 @@ pub stripped_mean : (means : TypeRef → Term) (rows : List Row) → rows_by mea
 stripped_mean means [] = refl
 stripped_mean means (row ∷ rows) = stripped_by means row rows (heap_free_row row.frozen (fields_by means row.fields)) (stripped_mean means rows)
 
-stripped_refs_by : (row : Row) (rows kept : List Row) (child : TypeRef) (b : Bool) → (Contains (row_types kept) child → Contains (row_types rows) child)
+pub filtered_refs_by : (row : Row) (rows kept : List Row) (child : TypeRef) (b : Bool) → (Contains (row_types kept) child → Contains (row_types rows) child)
     → Contains (row_types (if b then row ∷ kept else kept)) child → Contains (field_types row.fields ++ row_types rows) child
-stripped_refs_by row rows kept child true ih inside = go (Contains-append_cases (field_types row.fields) (row_types kept) child inside)
+filtered_refs_by row rows kept child true ih inside = go (Contains-append_cases (field_types row.fields) (row_types kept) child inside)
   where
     go : Contains (field_types row.fields) child ⊎ Contains (row_types kept) child → Contains (field_types row.fields ++ row_types rows) child
     go (inl h) = Contains-append_left (field_types row.fields) (row_types rows) child h
     go (inr h) = Contains-append_right (field_types row.fields) (row_types rows) child (ih h)
-stripped_refs_by row rows kept child false ih inside = Contains-append_right (field_types row.fields) (row_types rows) child (ih inside)
+filtered_refs_by row rows kept child false ih inside = Contains-append_right (field_types row.fields) (row_types rows) child (ih inside)
 
 pub stripped_refs : (means : TypeRef → Term) (rows : List Row) (child : TypeRef) → Contains (row_types (heap_free_ones means rows)) child → Contains (row_types rows) child
 stripped_refs means [] child inside = inside
 stripped_refs means (row ∷ rows) child inside =
-    stripped_refs_by row rows (heap_free_ones means rows) child (heap_free_row row.frozen (fields_by means row.fields)) (stripped_refs means rows child) inside
+    filtered_refs_by row rows (heap_free_ones means rows) child (heap_free_row row.frozen (fields_by means row.fields)) (stripped_refs means rows child) inside
 
 append_nil : {X : Type 0} (xs : List X) → xs ++ [] ≡ xs
 append_nil [] = refl

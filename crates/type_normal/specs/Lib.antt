@@ -12,3 +12,5 @@ pub mod Failing
 pub mod Adds
 pub mod Nodes
 pub mod Shape
+pub mod TypeTerm
+pub mod Listing

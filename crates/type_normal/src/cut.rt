@@ -67,7 +67,7 @@ fn is_small_at(alloc: Global, arena: &Arena<'_>, a: TypeRef) -> Result<bool, All
     ensures { IfOk result (λ small. small ≡ is_small (term_of (store_of arena.now) a)) }
 {
     let mut known = Shapes::new(alloc);
-    let shape = shape_at(alloc, arena, &mut known, a)?;
+    let shape = shape_at(arena, &mut known, a)?;
     Ok(shape.few_rows & (shape.depth <= 8))
 }
 

@@ -8,6 +8,7 @@ ghost use Rattle.type_normal.specs.Kinds.{unknown, nil_type, string_type, number
 ghost use Rattle.type_normal.specs.HeapFree.{heap_free, strip, widen, strip_at, widen_at};
 ghost use Rattle.type_normal.specs.Cut.{cut_down, cut_up, depth};
 ghost use Rattle.type_normal.specs.Field.{field_type, with_row_field, frozen_rows};
+ghost use Rattle.type_normal.specs.TypeTerm.{NilTerm, AnyStringTerm, PropsTerm, UnionTerm, MeetTerm, NotTerm, no_terms, more_terms, no_props, more_props, normal};
 ghost use Rattle.type_normal.specs.Examples.{x, y, x_is_string, frozen_x_is_string, mixed, rows_of_texts, nested};
 
 /// Unions, meets and complements.
@@ -79,4 +80,11 @@ pub fn fields()
     ensures written { with_row_field x number_type x_is_string ≡ field_is x number_type }
     ensures added { with_row_field y nil_type x_is_string ≡ meet x_is_string (field_is y nil_type) }
     ensures frozen { frozen_rows (union nil_type x_is_string) ≡ frozen_x_is_string }
+{}
+
+/// A written type and its normal form.
+pub fn written_and_normal()
+    ensures strings { normal (MeetTerm (more_terms (UnionTerm (more_terms AnyStringTerm (more_terms NilTerm no_terms))) (more_terms (NotTerm NilTerm) no_terms))) ≡ string_type }
+    ensures names { normal (PropsTerm false (more_props y AnyStringTerm (more_props x AnyStringTerm no_props))) ≡ meet x_is_string (field_is y string_type) }
+    ensures twice { normal (PropsTerm false (more_props x AnyStringTerm (more_props x NilTerm no_props))) ≡ never }
 {}

@@ -9,6 +9,7 @@ ghost use Rattle.type_normal.specs.Holds.{holds};
 ghost use Rattle.type_normal.specs.Rows.{is_empty, is_unknown};
 ghost use Rattle.type_normal.specs.Operations.{union, meet, not_free, is_flat, fail};
 ghost use Rattle.type_normal.specs.Kinds.{unknown, text_type, falsy, truthy, has_nil, exactly_one_function, is_falsy, IsFunction, Kinds, has_kind, kinds_type};
+ghost use Rattle.type_normal.specs.TypeTerm.{TypeTerm, satisfies, normal, is_proper};
 ghost use Rattle.type_normal.specs.Failing.{write_fail, unwritable, is_frozen_table};
 
 /// Every value belongs to unknown, and none to never or to any other type that is empty.
@@ -93,4 +94,11 @@ pub fn one_function()
 #[tactic(auto, using(crate::proofs::KindFacts::no_nil_holds))]
 pub fn no_nil()
     ensures { (h : Heap) (t : Term) → has_nil t ≡ false → holds h Nil t ≡ false }
+{}
+
+/// To the normal form of a written type belongs what belongs to the type, where no row with fields is complemented.
+#[tactic(auto, using(crate::proofs::TypeTermFacts::normal_holds))]
+pub fn written_types()
+    ensures { (h : Heap) (v : Value) (t : TypeTerm) → is_proper t ≡ true
+        → holds h v (normal t) ≡ satisfies h v t }
 {}

@@ -7,6 +7,7 @@ mod emptiness;
 pub mod examples;
 pub mod heap_laws;
 pub mod laws;
+mod listing;
 mod rows;
 mod shape;
 mod stripping;
@@ -14,7 +15,7 @@ mod stripping;
 pub use complement::not_free;
 pub use cut::{cut_down, cut_up};
 pub use emptiness::is_empty;
-pub use stripping::strip;
+pub use stripping::{strip, strip_at};
 
 #[cfg(test)]
 mod tests;

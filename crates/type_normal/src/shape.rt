@@ -5,7 +5,7 @@ ghost use Rattle.type_arena.specs.Store.{has as has_node, row_types, field_types
 ghost use Rattle.type_normal.specs.Nodes.{is_nil};
 ghost use Rattle.type_normal.specs.Shape.{IsRight, shape_of, shape_of_rows, shape_of_fields, both_shapes, as_field, as_row};
 
-use std::alloc::{AllocError, Global};
+use std::alloc::AllocError;
 use std::collections::HashMap;
 use type_arena::{Arena, Label, Nodes, Row, TypeRef};
 
@@ -72,7 +72,6 @@ impl Shape {
 /// The shape of a type. Each node that is met is looked at once, and then remembered.
 #[cycle(shapes)]
 pub(crate) fn shape_at(
-    alloc: Global,
     arena: &Arena<'_>,
     known: &mut Shapes,
     at: TypeRef,
@@ -86,7 +85,7 @@ pub(crate) fn shape_at(
         return Ok(*shape);
     }
     let rows = arena.node(at).rows.as_slice();
-    let all = rows_shape(alloc, arena, known, rows)?;
+    let all = rows_shape(arena, known, rows)?;
     let shape = Shape {
         heap_free: all.heap_free,
         depth: all.depth,
@@ -98,12 +97,7 @@ pub(crate) fn shape_at(
 
 // The shape of some rows.
 #[cycle(shapes)]
-fn rows_shape(
-    alloc: Global,
-    arena: &Arena<'_>,
-    known: &mut Shapes,
-    rows: &[Row],
-) -> Result<Shape, AllocError>
+fn rows_shape(arena: &Arena<'_>, known: &mut Shapes, rows: &[Row]) -> Result<Shape, AllocError>
     requires there { All (λ child. IsTrue (has_node (store_of arena.now) child)) (row_types rows.now) }
     requires right { IsRight (store_of arena.now) known.old }
     ensures shape { IfOk result (λ shape. shape ≡ shape_of_rows (rows_by (term_of (store_of arena.now)) rows.now)) }
@@ -111,7 +105,7 @@ fn rows_shape(
 {
     let mut all = Shape::none();
     for row in rows {
-        let fields = fields_shape(alloc, arena, known, row.fields.as_slice())?;
+        let fields = fields_shape(arena, known, row.fields.as_slice())?;
         all = all.and(fields.as_row(row));
     }
     Ok(all)
@@ -120,7 +114,6 @@ fn rows_shape(
 // The shape of some fields.
 #[cycle(shapes)]
 pub(crate) fn fields_shape(
-    alloc: Global,
     arena: &Arena<'_>,
     known: &mut Shapes,
     fields: &[(Label, TypeRef)],
@@ -132,7 +125,7 @@ pub(crate) fn fields_shape(
 {
     let mut all = Shape::none();
     for field in fields {
-        let shape = shape_at(alloc, arena, known, field.1)?;
+        let shape = shape_at(arena, known, field.1)?;
         all = all.and(shape.as_field());
     }
     Ok(all)
