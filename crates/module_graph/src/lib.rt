@@ -20,3 +20,6 @@ pub use laws::{
 };
 pub use needs::{Fate, GraphRefusal, ModuleNeeds, Need, Plan};
 pub use planning::{MAX_MODULES, plan};
+
+#[cfg(test)]
+mod tests;
