@@ -11,8 +11,8 @@ use Rattle.type_normal.specs.Free.{is_no_free, is_whole_free, free_cmp, name_cmp
 -- how the names of fields compare
 abbrev pub names_cmp : Fields → Fields → Ordering
 names_cmp no_fields no_fields = Equal
-names_cmp no_fields (more_fields name type fields) = Less
-names_cmp (more_fields name type fields) no_fields = Greater
+names_cmp no_fields (more_fields name type _) = Less
+names_cmp (more_fields name type _) no_fields = Greater
 names_cmp (more_fields name type fields) (more_fields other other_type others) = ordering_then (name_cmp name other) (names_cmp fields others)
 
 -- how types, rows and the types of fields compare: a type by its free part and then by its rows
@@ -22,16 +22,16 @@ abbrev mutual
 
   pub rows_cmp : Rows → Rows → Ordering
   rows_cmp no_rows no_rows = Equal
-  rows_cmp no_rows (more_rows frozen fields rows) = Less
-  rows_cmp (more_rows frozen fields rows) no_rows = Greater
+  rows_cmp no_rows (more_rows frozen _ rows) = Less
+  rows_cmp (more_rows frozen _ rows) no_rows = Greater
   rows_cmp (more_rows frozen fields rows) (more_rows other_frozen other_fields others) =
       ordering_then (bool_cmp frozen other_frozen)
       (ordering_then (names_cmp fields other_fields) (ordering_then (types_cmp fields other_fields) (rows_cmp rows others)))
 
   pub types_cmp : Fields → Fields → Ordering
   types_cmp no_fields no_fields = Equal
-  types_cmp no_fields (more_fields name type fields) = Less
-  types_cmp (more_fields name type fields) no_fields = Greater
+  types_cmp no_fields (more_fields name type _) = Less
+  types_cmp (more_fields name type _) no_fields = Greater
   types_cmp (more_fields name type fields) (more_fields other other_type others) = ordering_then (term_cmp type other_type) (types_cmp fields others)
 
 -- how two rows compare
@@ -64,7 +64,7 @@ any_table = more_rows false no_fields no_rows
 -- whether a type is empty, and whether it is unknown, by form
 abbrev pub is_empty : Term → Bool
 is_empty (term free no_rows) = is_no_free free
-is_empty (term free (more_rows frozen fields rows)) = false
+is_empty (term free (more_rows frozen _ rows)) = false
 
 abbrev pub is_unknown : Term → Bool
 is_unknown (term free (more_rows false no_fields no_rows)) = is_whole_free free
