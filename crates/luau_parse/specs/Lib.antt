@@ -12,6 +12,7 @@ pub mod Outcomes
 pub mod ReadPhrases
 pub mod ReadTypes
 pub mod ReadExpressions
+pub mod Seen
 pub mod ReadStatements
 pub mod ReadModules
 pub mod Nests
