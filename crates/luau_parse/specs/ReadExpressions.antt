@@ -321,10 +321,19 @@ module _ (set : Setting) (inner : Readers) where
   unfoldable pub part : Interpolated → Parser Interpolated
   part given = expression >>= part_end given
 
+  -- behind the first text
+  unfoldable pub parts : List ℕ → Parser Interpolated
+  parts text =
+      read.repeat set (λ given p. given.open_ended) part (record {
+        texts = text ∷ [];
+        parts = [];
+        open_ended = true;
+      })
+
   unfoldable pub interpolation : ℕ → Parser Expr
   interpolation from = do
     text ← read.string set s.Begin
-    found ← read.repeat set (λ given p. given.open_ended) part (record { texts = text ∷ []; parts = []; open_ended = true })
+    found ← parts text
     span ← span_from from
     pure (tree.the_expr 0 span (tree.Interp found.texts (exprs found.parts)))
 

@@ -1,4 +1,5 @@
 //! Expressions without operators, by their first symbol.
+ghost use Rattle.std.specs.Prelude.{map};
 ghost use Rattle.luau_tree.specs.Tree as tree;
 ghost use Rattle.luau_tree.specs.View.{view_choice, view_choices, view_expr};
 ghost use Rattle.luau_parse.specs.Seen.{seen_interpolated};
@@ -10,16 +11,16 @@ ghost use Rattle.luau_parse.specs.ReadExpressions as values;
 
 use crate::error::ParseError;
 use crate::grammar::Grammar;
-use crate::interpolated::{Interpolated, begun};
+use crate::interpolated::{Interpolated, begun, finished, one};
 use crate::listed::Listed;
 use crate::symbol::Symbol;
 use crate::tokens::{Tokens, copy};
 use luau_tree::exprs::{
-    assert_expr, false_expr, function_expr, if_else_expr, interp_expr, nil_expr, number_expr,
-    str_expr, table_expr, true_expr, vararg_expr,
+    assert_expr, false_expr, function_expr, if_else_expr, nil_expr, number_expr, str_expr,
+    table_expr, true_expr, vararg_expr,
 };
 use luau_tree::parts::choice_of;
-use luau_tree::{Block, Choice, Expr, ExprId, List, TypeSyntax};
+use luau_tree::{Block, Bytes, Choice, Expr, ExprId, TypeSyntax};
 use sqlite_items::Items;
 use std::alloc::Global;
 
@@ -47,22 +48,34 @@ impl<
         Ok(choice_of(cond, value))
     }
 
-    #[tactic(auto, unfolding(crate::specs::ReadExpressions::all_choices, crate::specs::ReadExpressions::another_choice))]
+    #[tactic(auto, unfolding(crate::specs::ReadExpressions::another_choice))]
+    fn another_choice(
+        &self,
+        tokens: &mut Tokens<'_, '_>,
+        mut found: Items<Choice>,
+    ) -> Result<Items<Choice>, ParseError>
+        requires { Nests self.now.text.now self.now.depth (E.pre self.now.exp) (E.post self.now.exp) (T.pre self.now.typ) (T.post self.now.typ) (B.pre self.now.block) (B.post self.now.block) }
+        ensures { Reads (map view_choice) (values.another_choice (strictly self.now.text.now) (readers (strictly self.now.text.now) self.now.depth) (map view_choice found) (place_of tokens.old)) result tokens.new }
+    {
+        let x = self.choice(tokens, Symbol::ElseIf)?;
+        found.push(x)?;
+        Ok(found)
+    }
+
+    #[tactic(auto, using(crate::proofs::Lists::choices_seen), unfolding(crate::specs::ReadExpressions::all_choices))]
     fn all_choices(&self, tokens: &mut Tokens<'_, '_>) -> Result<Items<Choice>, ParseError>
         requires { Nests self.now.text.now self.now.depth (E.pre self.now.exp) (E.post self.now.exp) (T.pre self.now.typ) (T.post self.now.typ) (B.pre self.now.block) (B.post self.now.block) }
         ensures { Reads view_choices (values.all_choices (strictly self.now.text.now) (readers (strictly self.now.text.now) self.now.depth) (place_of tokens.old)) result tokens.new }
     {
         let first = self.choice(tokens, Symbol::If)?;
-        let mut found = Items::new(self.alloc);
-        found.push(first)?;
+        let mut found = one(self.alloc, first)?;
         let mut turns = tokens.left();
         while tokens.sees(Symbol::ElseIf) {
             if turns == 0 {
                 return Err(tokens.refusal(self.text));
             }
             turns -= 1;
-            let x = self.choice(tokens, Symbol::ElseIf)?;
-            found.push(x)?;
+            found = self.another_choice(tokens, found)?;
         }
         Ok(found)
     }
@@ -110,12 +123,12 @@ impl<
         })
     }
 
-    #[tactic(auto, unfolding(crate::specs::ReadExpressions::interpolation))]
-    fn interpolation(&self, tokens: &mut Tokens<'_, '_>, from: u32) -> Result<Expr, ParseError>
+    /// The parts of an interpolated string, behind its first text.
+    #[tactic(auto, unfolding(crate::specs::ReadExpressions::parts))]
+    fn parts(&self, tokens: &mut Tokens<'_, '_>, text: Bytes) -> Result<Interpolated, ParseError>
         requires { Nests self.now.text.now self.now.depth (E.pre self.now.exp) (E.post self.now.exp) (T.pre self.now.typ) (T.post self.now.typ) (B.pre self.now.block) (B.post self.now.block) }
-        ensures { Reads view_expr (values.interpolation (strictly self.now.text.now) (readers (strictly self.now.text.now) self.now.depth) from (place_of tokens.old)) result tokens.new }
+        ensures { Reads seen_interpolated (values.parts (strictly self.now.text.now) (readers (strictly self.now.text.now) self.now.depth) text (place_of tokens.old)) result tokens.new }
     {
-        let text = tokens.string(self.alloc, self.text, Symbol::Begin)?;
         let mut given = begun(self.alloc, text)?;
         let mut turns = tokens.left();
         while given.open_ended {
@@ -125,9 +138,18 @@ impl<
             turns -= 1;
             given = self.part(tokens, given)?;
         }
+        Ok(given)
+    }
+
+    #[tactic(auto, unfolding(crate::specs::ReadExpressions::interpolation))]
+    fn interpolation(&self, tokens: &mut Tokens<'_, '_>, from: u32) -> Result<Expr, ParseError>
+        requires { Nests self.now.text.now self.now.depth (E.pre self.now.exp) (E.post self.now.exp) (T.pre self.now.typ) (T.post self.now.typ) (B.pre self.now.block) (B.post self.now.block) }
+        ensures { Reads view_expr (values.interpolation (strictly self.now.text.now) (readers (strictly self.now.text.now) self.now.depth) from (place_of tokens.old)) result tokens.new }
+    {
+        let text = tokens.string(self.alloc, self.text, Symbol::Begin)?;
+        let found = self.parts(tokens, text)?;
         let span = tokens.span_from(from);
-        let Interpolated { texts, parts, .. } = given;
-        Ok(interp_expr(ExprId(0), span, List::of(texts), parts))
+        Ok(finished(span, found))
     }
 
     #[tactic(auto, unfolding(crate::specs::ReadExpressions::whole))]
@@ -137,8 +159,8 @@ impl<
     {
         let text = tokens.string(self.alloc, self.text, Symbol::Whole)?;
         let span = tokens.span_from(from);
-        let Interpolated { texts, parts, .. } = begun(self.alloc, text)?;
-        Ok(interp_expr(ExprId(0), span, List::of(texts), parts))
+        let found = begun(self.alloc, text)?;
+        Ok(finished(span, found))
     }
 
     #[tactic(auto, unfolding(crate::specs::ReadExpressions::word))]

@@ -1,6 +1,12 @@
 //! Names and expressions in parentheses, with indices, fields and calls behind them; and table constructors.
-ghost use Rattle.std.specs.Prelude.{◌≡◌, map, IfOk};
+ghost use Rattle.std.specs.Prelude.{◌≡◌, ◌&&◌, not, map, IfOk};
 ghost use Rattle.luau_tree.specs.Tree as tree;
+ghost use Rattle.luau_parse.specs.declared.symbol.Symbol.TheVariants as s;
+ghost use Rattle.luau_parse.specs.Places as places;
+ghost use Rattle.luau_parse.specs.Reading as reading;
+ghost use Rattle.luau_parse.specs.ReadTypes as types;
+ghost use Rattle.luau_parse.specs.ReadPhrases as phrases;
+ghost use Rattle.luau_parse.specs.Seen.{seen_fields};
 ghost use Rattle.luau_tree.specs.View.{view_expr, view_exprs, view_item, view_items};
 ghost use Rattle.luau_parse.specs.Nests.{Nests};
 ghost use Rattle.luau_parse.specs.Outcomes.{Reads, place_of};
@@ -10,6 +16,7 @@ ghost use Rattle.luau_parse.specs.ReadExpressions as values;
 
 use crate::error::ParseError;
 use crate::grammar::Grammar;
+use crate::interpolated::one;
 use crate::listed::Listed;
 use crate::symbol::Symbol;
 use crate::tokens::{Tokens, deeper};
@@ -21,13 +28,25 @@ use luau_tree::{Block, Expr, ExprId, Item, TypeSyntax};
 use sqlite_items::Items;
 use std::alloc::{AllocError, Global};
 
-/// One expression alone.
-fn only(alloc: Global, e: Expr) -> Result<Items<Expr>, AllocError>
+/// The items of a table constructor so far, and whether an item may follow.
+#[derive(Drop)]
+pub struct Fields {
+    items: Items<Item>,
+    open_ended: bool,
+}
+
+/// Whether another item of a table constructor stands at a place.
+fn goes_on(tokens: &Tokens<'_, '_>, given: &Fields) -> bool
+    ensures { result ≡ (given.now.open_ended && not (places.sees s.RightBrace (place_of tokens.now))) }
+{
+    given.open_ended && !tokens.sees(Symbol::RightBrace)
+}
+
+/// One expression alone, as arguments.
+fn argument(alloc: Global, e: Expr) -> Result<Items<Expr>, AllocError>
     ensures { IfOk result (λ es. view_exprs es ≡ tree.more_exprs (view_expr e) tree.no_exprs) }
 {
-    let mut found = Items::new(alloc);
-    found.push(e)?;
-    Ok(found)
+    one(alloc, e)
 }
 
 impl<
@@ -42,6 +61,22 @@ impl<
     ) -> Result<TypeSyntax, ParseError>,
     B: Fn(Global, &[u8], &mut Tokens<'_, '_>, usize) -> Result<Block, ParseError>,
 > Grammar<'s, E, T, B> {
+    /// One more expression behind a comma.
+    #[tactic(auto)]
+    fn another_expression(
+        &self,
+        tokens: &mut Tokens<'_, '_>,
+        mut found: Items<Expr>,
+    ) -> Result<Items<Expr>, ParseError>
+        requires { Nests self.now.text.now self.now.depth (E.pre self.now.exp) (E.post self.now.exp) (T.pre self.now.typ) (T.post self.now.typ) (B.pre self.now.block) (B.post self.now.block) }
+        ensures { Reads (map view_expr) (reading.another (strictly self.now.text.now) (phrases.expression (strictly self.now.text.now) (readers (strictly self.now.text.now) self.now.depth)) (map view_expr found) (place_of tokens.old)) result tokens.new }
+    {
+        let _comma = tokens.expect(self.text, Symbol::Comma)?;
+        let e = self.expression(tokens)?;
+        found.push(e)?;
+        Ok(found)
+    }
+
     /// Expressions with commas between them.
     #[tactic(auto, unfolding(crate::specs::ReadExpressions::expressions, crate::specs::Reading::separated, crate::specs::Reading::separated_from))]
     pub fn expressions(&self, tokens: &mut Tokens<'_, '_>) -> Result<Items<Expr>, ParseError>
@@ -49,17 +84,14 @@ impl<
         ensures { Reads (map view_expr) (values.expressions (strictly self.now.text.now) (readers (strictly self.now.text.now) self.now.depth) (place_of tokens.old)) result tokens.new }
     {
         let first = self.expression(tokens)?;
-        let mut found = Items::new(self.alloc);
-        found.push(first)?;
+        let mut found = one(self.alloc, first)?;
         let mut turns = tokens.left();
         while tokens.sees(Symbol::Comma) {
             if turns == 0 {
                 return Err(tokens.refusal(self.text));
             }
             turns -= 1;
-            let _comma = tokens.expect(self.text, Symbol::Comma)?;
-            let e = self.expression(tokens)?;
-            found.push(e)?;
+            found = self.another_expression(tokens, found)?;
         }
         Ok(found)
     }
@@ -103,24 +135,37 @@ impl<
         Ok(plain_item(value))
     }
 
-    #[tactic(auto, unfolding(crate::specs::ReadExpressions::fields, crate::specs::ReadTypes::braced, crate::specs::ReadTypes::separator))]
+    /// One more item, and whether an item may follow.
+    #[tactic(auto)]
+    fn another_item(&self, tokens: &mut Tokens<'_, '_>, given: Fields) -> Result<Fields, ParseError>
+        requires { Nests self.now.text.now self.now.depth (E.pre self.now.exp) (E.post self.now.exp) (T.pre self.now.typ) (T.post self.now.typ) (B.pre self.now.block) (B.post self.now.block) }
+        ensures { Reads seen_fields (types.one_braced (strictly self.now.text.now) (values.item (strictly self.now.text.now) (readers (strictly self.now.text.now) self.now.depth)) (seen_fields given) (place_of tokens.old)) result tokens.new }
+    {
+        let x = self.item(tokens)?;
+        let open_ended = tokens.separator(self.text)?;
+        let mut items = given.items;
+        items.push(x)?;
+        Ok(Fields { items, open_ended })
+    }
+
+    #[tactic(auto, using(crate::proofs::Lists::items_seen), unfolding(crate::specs::ReadExpressions::fields, crate::specs::ReadTypes::braced))]
     fn fields(&self, tokens: &mut Tokens<'_, '_>) -> Result<Items<Item>, ParseError>
         requires { Nests self.now.text.now self.now.depth (E.pre self.now.exp) (E.post self.now.exp) (T.pre self.now.typ) (T.post self.now.typ) (B.pre self.now.block) (B.post self.now.block) }
         ensures { Reads view_items (values.fields (strictly self.now.text.now) (readers (strictly self.now.text.now) self.now.depth) (place_of tokens.old)) result tokens.new }
     {
-        let mut found = Items::new(self.alloc);
-        let mut more = true;
+        let mut given = Fields {
+            items: Items::new(self.alloc),
+            open_ended: true,
+        };
         let mut turns = tokens.left();
-        while more && !tokens.sees(Symbol::RightBrace) {
+        while goes_on(tokens, &given) {
             if turns == 0 {
                 return Err(tokens.refusal(self.text));
             }
             turns -= 1;
-            let x = self.item(tokens)?;
-            more = tokens.separator(self.text)?;
-            found.push(x)?;
+            given = self.another_item(tokens, given)?;
         }
-        Ok(found)
+        Ok(given.items)
     }
 
     /// A table constructor, whose inside stands at a level.
@@ -175,7 +220,7 @@ impl<
         let from = tokens.start();
         let fields = self.table(tokens, inside)?;
         let span = tokens.span_from(from);
-        let args = only(self.alloc, table_expr(ExprId(0), span, fields))?;
+        let args = argument(self.alloc, table_expr(ExprId(0), span, fields))?;
         Ok(args)
     }
 
@@ -192,7 +237,7 @@ impl<
         let value = tokens.string(self.alloc, self.text, Symbol::Text)?;
         tokens.set_level(inside);
         let span = tokens.span_from(from);
-        let args = only(self.alloc, str_expr(ExprId(0), span, value))?;
+        let args = argument(self.alloc, str_expr(ExprId(0), span, value))?;
         Ok(args)
     }
 
