@@ -8,8 +8,11 @@ pub mod Expressions
 pub mod Statements
 pub mod Modules
 pub mod Reading
+pub mod Outcomes
 pub mod ReadPhrases
 pub mod ReadTypes
 pub mod ReadExpressions
+pub mod Seen
 pub mod ReadStatements
 pub mod ReadModules
+pub mod Nests

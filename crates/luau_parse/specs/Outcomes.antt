@@ -1,10 +1,13 @@
 -- What the code's places and results are, seen as plain data.
-use Rattle.std.specs.Prelude.{◌≡◌, ◌≢◌, ℕ, List, map, Option, Result, Ok, Err, ◌≤◌, length}
+use Rattle.std.specs.Prelude.{◌≡◌, ◌≢◌, ℕ, List, map, Option, Some, None, Result, Ok, Err, ◌≤◌, length}
 use Rattle.luau_lex.specs.Tokens.{seen_token}
 use Rattle.luau_lex.specs.declared.token.Token.{Token}
 use Rattle.luau_parse.specs.declared.error.ParseError.{ParseError}
 use Rattle.luau_parse.specs.declared.error.ParseError.TheVariants.{NoMemory}
 use Rattle.luau_parse.specs.declared.tokens.Tokens.{Tokens}
+use Rattle.luau_parse.specs.declared.listed.Listed as code
+use Rattle.luau_parse.specs.Phrases.{Listed}
+use Rattle.luau_tree.specs.View.{view_type}
 use Rattle.luau_parse.specs.Places.{Place}
 use Rattle.luau_parse.specs.Reading.{Outcome}
 
@@ -19,3 +22,11 @@ Reads view outcome (Err e) new = e ≢ NoMemory → outcome ≡ Err e
 -- a value that is seen as it is
 abbrev pub itself : {A : Type 0} → A → A
 itself x = x
+
+-- a list in parentheses
+abbrev pub seen_listed : code.Listed → Listed
+seen_listed l = record { start = l.start; end = l.end; types = map view_type l.types; named = l.named; tailed = l.tailed }
+
+abbrev pub maybe_listed : Option code.Listed → Option Listed
+maybe_listed None = None
+maybe_listed (Some l) = Some (seen_listed l)

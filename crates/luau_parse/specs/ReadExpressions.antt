@@ -84,10 +84,10 @@ module _ (set : Setting) (inner : Readers) where
   varparam = do
     read.expect set s.Dots
     (λ p. if sees s.Colon p then (do
-        read.expect set s.Colon
-        t ← var_type
-        pure (tree.a_type t)) p
-      else Ok (tree.no_type, p))
+      read.expect set s.Colon
+      t ← var_type
+      pure (tree.a_type t)) p
+        else Ok (tree.no_type, p))
 
   unfoldable pub parameter : Parameters → Parser Parameters
   parameter given = λ p.
@@ -160,14 +160,19 @@ module _ (set : Setting) (inner : Readers) where
         value ← expression
         pure (tree.Plain value)) p
 
+  unfoldable pub fields : Parser Items
+  fields = do
+    found ← types.braced set item
+    pure (items found.items)
+
   -- whose inside stands at this level
   unfoldable pub table : ℕ → Parser Items
   table inside = do
     read.expect set s.LeftBrace
     set_level inside
-    found ← types.braced set item
+    found ← fields
     read.expect set s.RightBrace
-    pure (items found.items)
+    pure found
 
   unfoldable pub in_parens : Parser Exprs
   in_parens = λ p.
@@ -260,7 +265,7 @@ module _ (set : Setting) (inner : Readers) where
   unfoldable pub call : ℕ → Expr → Parser Expr
   call from callee = do
     outer ← level
-    args ← arguments (outer + 1)
+    args ← arguments (read.deeper (set.limit) outer)
     span ← span_from from
     pure (tree.the_expr 0 span (tree.Call callee args))
 
@@ -296,12 +301,13 @@ module _ (set : Setting) (inner : Readers) where
     found ← read.repeat set (λ _ p. sees s.ElseIf p) another_choice (first ∷ [])
     pure (choices found)
 
-  unfoldable pub if_else : Parser ExprKind
-  if_else = do
+  unfoldable pub if_else : ℕ → Parser Expr
+  if_else from = do
     arms ← all_choices
     read.expect set s.Else
     e ← expression
-    pure (tree.IfElse arms e)
+    span ← span_from from
+    pure (tree.the_expr 0 span (tree.IfElse arms e))
 
   unfoldable pub part_end : Interpolated → Expr → Parser Interpolated
   part_end given e = λ p.
@@ -315,65 +321,79 @@ module _ (set : Setting) (inner : Readers) where
   unfoldable pub part : Interpolated → Parser Interpolated
   part given = expression >>= part_end given
 
-  unfoldable pub interpolation : Parser ExprKind
-  interpolation = do
+  -- behind the first text
+  unfoldable pub parts : List ℕ → Parser Interpolated
+  parts text =
+      read.repeat set (λ given p. given.open_ended) part (record {
+        texts = text ∷ [];
+        parts = [];
+        open_ended = true;
+      })
+
+  unfoldable pub interpolation : ℕ → Parser Expr
+  interpolation from = do
     text ← read.string set s.Begin
-    found ← read.repeat set (λ given p. given.open_ended) part (record { texts = text ∷ []; parts = []; open_ended = true })
-    pure (tree.Interp found.texts (exprs found.parts))
+    found ← parts text
+    span ← span_from from
+    pure (tree.the_expr 0 span (tree.Interp found.texts (exprs found.parts)))
 
-  unfoldable pub whole : Parser ExprKind
-  whole = do
+  unfoldable pub whole : ℕ → Parser Expr
+  whole from = do
     text ← read.string set s.Whole
-    pure (tree.Interp (text ∷ []) tree.no_exprs)
+    span ← span_from from
+    pure (tree.the_expr 0 span (tree.Interp (text ∷ []) tree.no_exprs))
 
-  unfoldable pub function : Parser ExprKind
-  function = do
+  unfoldable pub function : ℕ → Parser Expr
+  function from = do
     attributes
     read.expect set s.Function
     b ← body None
-    pure (tree.FunctionExpr b)
+    span ← span_from from
+    pure (tree.the_expr 0 span (tree.FunctionExpr b))
 
-  unfoldable pub word : ExprKind → Parser ExprKind
-  word kind = read.next set >> pure kind
-
-  unfoldable pub number : Parser ExprKind
-  number = do
-    t ← read.expect set s.Number
-    pure (tree.NumberExpr t.bytes)
-
-  unfoldable pub literal : Parser ExprKind
-  literal = do
-    value ← read.string set s.Text
-    pure (tree.StrExpr value)
-
-  unfoldable pub constructor : Parser ExprKind
-  constructor = do
-    inside ← level
-    fields ← table inside
-    pure (tree.TableExpr fields)
-
-  -- an expression that is no prefix, by its first symbol
-  abbrev pub form_by : Symbol → Parser ExprKind
-  form_by s.Nil = word tree.NilExpr
-  form_by s.True = word tree.TrueExpr
-  form_by s.False = word tree.FalseExpr
-  form_by s.Dots = word tree.Vararg
-  form_by s.Number = number
-  form_by s.Text = literal
-  form_by s.LeftBrace = constructor
-  form_by s.Function = function
-  form_by s.AtSign = function
-  form_by s.If = if_else
-  form_by s.Whole = whole
-  form_by s.Begin = interpolation
-  form_by _ = read.refuse set
-
-  unfoldable pub form : Parser Expr
-  form = do
-    from ← start
-    kind ← (λ p. form_by (symbol p) p)
+  unfoldable pub word : ℕ → ExprKind → Parser Expr
+  word from kind = do
+    read.next set
     span ← span_from from
     pure (tree.the_expr 0 span kind)
+
+  unfoldable pub number : ℕ → Parser Expr
+  number from = do
+    t ← read.expect set s.Number
+    span ← span_from from
+    pure (tree.the_expr 0 span (tree.NumberExpr t.bytes))
+
+  unfoldable pub literal : ℕ → Parser Expr
+  literal from = do
+    value ← read.string set s.Text
+    span ← span_from from
+    pure (tree.the_expr 0 span (tree.StrExpr value))
+
+  unfoldable pub constructor : ℕ → Parser Expr
+  constructor from = do
+    inside ← level
+    fields ← table inside
+    span ← span_from from
+    pure (tree.the_expr 0 span (tree.TableExpr fields))
+
+  -- an expression that is no prefix, by its first symbol
+  abbrev pub form_by : ℕ → Symbol → Parser Expr
+  form_by from s.Nil = word from tree.NilExpr
+  form_by from s.True = word from tree.TrueExpr
+  form_by from s.False = word from tree.FalseExpr
+  form_by from s.Dots = word from tree.Vararg
+  form_by from s.Number = number from
+  form_by from s.Text = literal from
+  form_by from s.LeftBrace = constructor from
+  form_by from s.Function = function from
+  form_by from s.AtSign = function from
+  form_by from s.If = if_else from
+  form_by from s.Whole = whole from
+  form_by from s.Begin = interpolation from
+  form_by from _ = read.refuse set
+
+  unfoldable pub form : Parser Expr
+  form p = form_by (start_of p) (symbol p) p
 
   unfoldable pub simple : Parser Expr
   simple = λ p. if sees s.Name p || sees s.LeftParen p then prefix p else form p

@@ -7,7 +7,7 @@ use Rattle.luau_tree.specs.Tree as tree
 use Rattle.luau_tree.specs.View.{exprs, binds, arms, stats}
 use Rattle.luau_parse.specs.declared.symbol.Symbol.{Symbol}
 use Rattle.luau_parse.specs.declared.symbol.Symbol.TheVariants as s
-use Rattle.luau_parse.specs.Places.{Place, symbol, sees, start_of}
+use Rattle.luau_parse.specs.Places.{Place, symbol, sees, start_of, from_to}
 use Rattle.luau_parse.specs.Operators.{compound_of}
 use Rattle.luau_parse.specs.Expressions as expressions
 use Rattle.luau_parse.specs.Statements.{begins, is_last, is_variable, is_call, sees_continue, sees_type, sees_export}
@@ -47,30 +47,34 @@ module _ (set : Setting) (inner : Readers) where
     (λ p. if is_variable e then Ok (e, p) else read.refuse set p)
 
   -- behind the first variable
-  unfoldable pub assign : Expr → Parser StatKind
-  assign first = do
+  unfoldable pub assign : ℕ → Expr → Parser Stat
+  assign from first = do
     targets ← read.separated_from set variable (first ∷ [])
     read.expect set s.Assign
     given ← values.expressions set inner
-    pure (tree.Assign (exprs targets) (exprs given))
+    span ← span_from from
+    pure (tree.the_stat span (tree.Assign (exprs targets) (exprs given)))
 
-  unfoldable pub compound : Expr → BinOp → Parser StatKind
-  compound target op = do
+  unfoldable pub compound : ℕ → Expr → BinOp → Parser Stat
+  compound from target op = do
     read.next set
     value ← expression
-    pure (tree.Compound target op value)
+    span ← span_from from
+    pure (tree.the_stat span (tree.Compound target op value))
 
   -- behind a prefix that ends in arguments, or in no arguments
-  abbrev pub prefix_by : Expr → Option BinOp → Parser StatKind
-  prefix_by e (Some op) = λ p. if is_variable e then compound e op p else read.refuse set p
-  prefix_by e None = λ p.
-      if is_variable e then assign e p else if is_call e then Ok (tree.CallStat e, p) else read.refuse set p
+  abbrev pub prefix_by : ℕ → Expr → Option BinOp → Parser Stat
+  prefix_by from e (Some op) = λ p. if is_variable e then compound from e op p else read.refuse set p
+  prefix_by from e None = λ p.
+      if is_variable e then assign from e p
+      else if is_call e then Ok (tree.the_stat (from_to from p) (tree.CallStat e), p)
+      else read.refuse set p
 
-  unfoldable pub behind_prefix : Expr → Parser StatKind
-  behind_prefix e p = prefix_by e (compound_of (symbol p)) p
+  unfoldable pub behind_prefix : ℕ → Expr → Parser Stat
+  behind_prefix from e p = prefix_by from e (compound_of (symbol p)) p
 
-  unfoldable pub prefix_statement : Parser StatKind
-  prefix_statement = own_prefix >>= behind_prefix
+  unfoldable pub prefix_statement : ℕ → Parser Stat
+  prefix_statement from = own_prefix >>= behind_prefix from
 
   -- `'do' block 'end'`
   unfoldable pub do_block : Parser Block
@@ -80,20 +84,22 @@ module _ (set : Setting) (inner : Readers) where
     read.expect set s.End
     pure b
 
-  unfoldable pub while_statement : Parser StatKind
-  while_statement = do
+  unfoldable pub while_statement : ℕ → Parser Stat
+  while_statement from = do
     read.expect set s.While
     cond ← expression
     b ← do_block
-    pure (tree.While cond b)
+    span ← span_from from
+    pure (tree.the_stat span (tree.While cond b))
 
-  unfoldable pub repeat_statement : Parser StatKind
-  repeat_statement = do
+  unfoldable pub repeat_statement : ℕ → Parser Stat
+  repeat_statement from = do
     read.expect set s.Repeat
     b ← block
     read.expect set s.Until
     cond ← expression
-    pure (tree.Repeat b cond)
+    span ← span_from from
+    pure (tree.the_stat span (tree.Repeat b cond))
 
   unfoldable pub arm : Symbol → Parser (Expr × Block)
   arm word = do
@@ -122,12 +128,13 @@ module _ (set : Setting) (inner : Readers) where
         pure (tree.a_block b)) p
       else Ok (tree.no_block, p)
 
-  unfoldable pub if_statement : Parser StatKind
-  if_statement = do
+  unfoldable pub if_statement : ℕ → Parser Stat
+  if_statement from = do
     found ← all_arms
     b ← maybe_else
     read.expect set s.End
-    pure (tree.If found b)
+    span ← span_from from
+    pure (tree.the_stat span (tree.If found b))
 
   unfoldable pub maybe_step : Parser MaybeExpr
   maybe_step = λ p.
@@ -138,30 +145,32 @@ module _ (set : Setting) (inner : Readers) where
       else Ok (tree.no_expr, p)
 
   -- behind the variable
-  unfoldable pub numeric_for : Bind → Parser StatKind
-  numeric_for x = do
+  unfoldable pub numeric_for : ℕ → Bind → Parser Stat
+  numeric_for from x = do
     read.expect set s.Assign
-    from ← expression
+    first ← expression
     read.expect set s.Comma
     to ← expression
     step ← maybe_step
     b ← do_block
-    pure (tree.NumFor x from to step b)
+    span ← span_from from
+    pure (tree.the_stat span (tree.NumFor x first to step b))
 
   -- behind the first variable
-  unfoldable pub generic_for : Bind → Parser StatKind
-  generic_for x = do
+  unfoldable pub generic_for : ℕ → Bind → Parser Stat
+  generic_for from x = do
     names ← read.separated_from set (values.bind set inner) (x ∷ [])
     read.expect set s.In
     given ← values.expressions set inner
     b ← do_block
-    pure (tree.GenFor (binds names) (exprs given) b)
+    span ← span_from from
+    pure (tree.the_stat span (tree.GenFor (binds names) (exprs given) b))
 
-  unfoldable pub for_statement : Parser StatKind
-  for_statement = do
+  unfoldable pub for_statement : ℕ → Parser Stat
+  for_statement from = do
     read.expect set s.For
     x ← values.bind set inner
-    (λ p. if sees s.Assign p then numeric_for x p else generic_for x p)
+    (λ p. if sees s.Assign p then numeric_for from x p else generic_for from x p)
 
   unfoldable pub path_name : Parser Expr
   path_name = values.name_expression set inner
@@ -184,25 +193,27 @@ module _ (set : Setting) (inner : Readers) where
       else Ok (record { name = None; span = None }, p)
 
   -- behind the attributes
-  unfoldable pub function_statement : Parser StatKind
-  function_statement = do
+  unfoldable pub function_statement : ℕ → Parser Stat
+  function_statement from = do
     read.expect set s.Function
     outer ← level
     way ← path
     method ← method_name
     set_level outer
     b ← values.body set inner (method.span)
-    pure (tree.FunctionStat way (method.name) b)
+    span ← span_from from
+    pure (tree.the_stat span (tree.FunctionStat way (method.name) b))
 
   -- behind the word `local`
-  unfoldable pub local_function : Parser StatKind
-  local_function = do
+  unfoldable pub local_function : ℕ → Parser Stat
+  local_function from = do
     read.expect set s.Function
-    from ← start
+    name_from ← start
     name ← read.name set
-    span ← span_from from
+    name_span ← span_from name_from
     b ← values.body set inner None
-    pure (tree.LocalFunction (tree.the_bind name span tree.no_type) b)
+    span ← span_from from
+    pure (tree.the_stat span (tree.LocalFunction (tree.the_bind name name_span tree.no_type) b))
 
   unfoldable pub maybe_values : Parser Exprs
   maybe_values = λ p.
@@ -212,81 +223,98 @@ module _ (set : Setting) (inner : Readers) where
         pure (exprs es)) p
       else Ok (tree.no_exprs, p)
 
-  unfoldable pub local_names : Parser StatKind
-  local_names = do
+  unfoldable pub local_names : ℕ → Parser Stat
+  local_names from = do
     names ← read.separated set (values.bind set inner)
     given ← maybe_values
-    pure (tree.Local (binds names) given)
+    span ← span_from from
+    pure (tree.the_stat span (tree.Local (binds names) given))
 
-  unfoldable pub local_statement : Parser StatKind
-  local_statement = do
+  unfoldable pub local_statement : ℕ → Parser Stat
+  local_statement from = do
     read.expect set s.Local
-    (λ p. if sees s.Function p then local_function p else local_names p)
+    (λ p. if sees s.Function p then local_function from p else local_names from p)
 
-  unfoldable pub attributed : Parser StatKind
-  attributed = do
+  unfoldable pub attributed : ℕ → Parser Stat
+  attributed from = do
     values.attributes set inner
-    (λ p. if sees s.Local p then (read.expect set s.Local >> local_function) p else function_statement p)
+    (λ p. if sees s.Local p then (read.expect set s.Local >> local_function from) p else function_statement from p)
 
   -- behind the word `type`
-  unfoldable pub alias : Bool → Parser StatKind
-  alias exported = do
+  unfoldable pub alias : ℕ → Bool → Parser Stat
+  alias from exported = do
     name ← read.name set
     gs ← types.generics set inner true
     read.expect set s.Assign
     t ← phrases.typ set inner None
-    pure (tree.TypeAlias exported name gs t)
+    span ← span_from from
+    pure (tree.the_stat span (tree.TypeAlias exported name gs t))
 
-  unfoldable pub type_function : Bool → Parser StatKind
-  type_function exported = do
+  unfoldable pub type_function : ℕ → Bool → Parser Stat
+  type_function from exported = do
     read.expect set s.Function
     name ← read.name set
     b ← values.body set inner None
-    pure (tree.TypeFunction exported name b)
+    span ← span_from from
+    pure (tree.the_stat span (tree.TypeFunction exported name b))
 
-  unfoldable pub type_statement : Bool → Parser StatKind
-  type_statement exported = do
+  unfoldable pub type_statement : ℕ → Bool → Parser Stat
+  type_statement from exported = do
     read.next set
-    (λ p. if sees s.Function p then type_function exported p else alias exported p)
+    (λ p. if sees s.Function p then type_function from exported p else alias from exported p)
 
-  unfoldable pub return_statement : Parser StatKind
-  return_statement = do
-    read.expect set s.Return
-    (λ p. if expressions.begins (symbol p) then (do
+  unfoldable pub maybe_expressions : Parser Exprs
+  maybe_expressions = λ p.
+      if expressions.begins (symbol p) then (do
         es ← values.expressions set inner
-        pure (tree.Return (exprs es))) p
-      else Ok (tree.Return tree.no_exprs, p))
+        pure (exprs es)) p
+      else Ok (tree.no_exprs, p)
 
-  -- a statement that begins with a name, which may be a word
-  unfoldable pub name_statement : Parser StatKind
-  name_statement = λ p.
-      if sees_continue p then (read.next set >> pure tree.Continue) p
-      else if sees_type p then type_statement false p
-      else if sees_export p then (read.next set >> type_statement true) p
-      else prefix_statement p
+  unfoldable pub return_statement : ℕ → Parser Stat
+  return_statement from = do
+    read.expect set s.Return
+    es ← maybe_expressions
+    span ← span_from from
+    pure (tree.the_stat span (tree.Return es))
 
-  -- by its first symbol
-  abbrev pub form_by : Symbol → Parser StatKind
-  form_by s.Name = name_statement
-  form_by s.LeftParen = prefix_statement
-  form_by s.Do = do_block >>= (λ b. pure (tree.Do b))
-  form_by s.While = while_statement
-  form_by s.Repeat = repeat_statement
-  form_by s.If = if_statement
-  form_by s.For = for_statement
-  form_by s.AtSign = attributed
-  form_by s.Function = function_statement
-  form_by s.Local = local_statement
-  form_by s.Return = return_statement
-  form_by s.Break = read.next set >> pure tree.Break
-  form_by _ = read.refuse set
-
-  unfoldable pub statement : Parser Stat
-  statement = do
-    from ← start
-    kind ← (λ p. form_by (symbol p) p)
+  unfoldable pub word_statement : ℕ → StatKind → Parser Stat
+  word_statement from kind = do
+    read.next set
     span ← span_from from
     pure (tree.the_stat span kind)
+
+  unfoldable pub do_statement : ℕ → Parser Stat
+  do_statement from = do
+    b ← do_block
+    span ← span_from from
+    pure (tree.the_stat span (tree.Do b))
+
+  -- a statement that begins with a name, which may be a word
+  unfoldable pub name_statement : ℕ → Parser Stat
+  name_statement from = λ p.
+      if sees_continue p then word_statement from tree.Continue p
+      else if sees_type p then type_statement from false p
+      else if sees_export p then (read.next set >> type_statement from true) p
+      else prefix_statement from p
+
+  -- by its first symbol
+  abbrev pub form_by : ℕ → Symbol → Parser Stat
+  form_by from s.Name = name_statement from
+  form_by from s.LeftParen = prefix_statement from
+  form_by from s.Do = do_statement from
+  form_by from s.While = while_statement from
+  form_by from s.Repeat = repeat_statement from
+  form_by from s.If = if_statement from
+  form_by from s.For = for_statement from
+  form_by from s.AtSign = attributed from
+  form_by from s.Function = function_statement from
+  form_by from s.Local = local_statement from
+  form_by from s.Return = return_statement from
+  form_by from s.Break = word_statement from tree.Break
+  form_by from _ = read.refuse set
+
+  unfoldable pub statement : Parser Stat
+  statement p = form_by (start_of p) (symbol p) p
 
   -- one more, and the `;` behind it
   unfoldable pub another_statement : Statements → Parser Statements

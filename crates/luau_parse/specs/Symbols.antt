@@ -13,45 +13,38 @@ use Rattle.luau_parse.specs.declared.symbol.Symbol.TheVariants as s
 unfoldable pub same : Symbol → Symbol → Bool
 same = sameb the_type
 
-pub record Entry : Type 0 where
-  pub bytes : List ℕ
-  pub symbol : Symbol
-
-abbrev pub stands : List ℕ → Symbol → Entry
-stands bytes symbol = record { bytes = bytes; symbol = symbol }
-
 -- the symbol that a table has for these bytes
-abbrev pub look_up : List Entry → List ℕ → Symbol
+abbrev pub look_up : List (List ℕ × Symbol) → List ℕ → Symbol
 look_up [] bytes = s.Stray
-look_up (e ∷ es) bytes = if bytes_eq bytes e.bytes then e.symbol else look_up es bytes
+look_up (e ∷ es) bytes = if bytes_eq bytes e.0 then e.1 else look_up es bytes
 
-abbrev pub words : List Entry
+abbrev pub words : List (List ℕ × Symbol)
 words =
-    stands (codes "and") s.And ∷ stands (codes "break") s.Break ∷ stands (codes "do") s.Do ∷ stands (codes "else") s.Else
-    ∷ stands (codes "elseif") s.ElseIf ∷ stands (codes "end") s.End ∷ stands (codes "false") s.False
-    ∷ stands (codes "for") s.For ∷ stands (codes "function") s.Function ∷ stands (codes "if") s.If
-    ∷ stands (codes "in") s.In ∷ stands (codes "local") s.Local ∷ stands (codes "nil") s.Nil
-    ∷ stands (codes "not") s.Not ∷ stands (codes "or") s.Or ∷ stands (codes "repeat") s.Repeat
-    ∷ stands (codes "return") s.Return ∷ stands (codes "then") s.Then ∷ stands (codes "true") s.True
-    ∷ stands (codes "until") s.Until ∷ stands (codes "while") s.While ∷ []
+    (codes "and", s.And) ∷ (codes "break", s.Break) ∷ (codes "do", s.Do) ∷ (codes "else", s.Else)
+    ∷ (codes "elseif", s.ElseIf) ∷ (codes "end", s.End) ∷ (codes "false", s.False)
+    ∷ (codes "for", s.For) ∷ (codes "function", s.Function) ∷ (codes "if", s.If)
+    ∷ (codes "in", s.In) ∷ (codes "local", s.Local) ∷ (codes "nil", s.Nil)
+    ∷ (codes "not", s.Not) ∷ (codes "or", s.Or) ∷ (codes "repeat", s.Repeat)
+    ∷ (codes "return", s.Return) ∷ (codes "then", s.Then) ∷ (codes "true", s.True)
+    ∷ (codes "until", s.Until) ∷ (codes "while", s.While) ∷ []
 
-abbrev pub signs : List Entry
+abbrev pub signs : List (List ℕ × Symbol)
 signs =
-    stands (codes "(") s.LeftParen ∷ stands (codes ")") s.RightParen ∷ stands (codes ",") s.Comma
-    ∷ stands (codes ".") s.Dot ∷ stands (codes "=") s.Assign ∷ stands (codes ":") s.Colon
-    ∷ stands (codes "{") s.LeftBrace ∷ stands (codes "}") s.RightBrace
-    ∷ stands (codes "[") s.LeftBracket ∷ stands (codes "]") s.RightBracket
-    ∷ stands (codes "==") s.Equal ∷ stands (codes "~=") s.NotEqual ∷ stands (codes "..") s.DoubleDot
-    ∷ stands (codes "+") s.Plus ∷ stands (codes "-") s.Minus ∷ stands (codes "*") s.Star
-    ∷ stands (codes "/") s.Slash ∷ stands (codes "//") s.DoubleSlash ∷ stands (codes "%") s.Percent
-    ∷ stands (codes "^") s.Caret ∷ stands (codes "#") s.Hash ∷ stands (codes "<") s.Less
-    ∷ stands (codes ">") s.Greater ∷ stands (codes "<=") s.LessEqual ∷ stands (codes ">=") s.GreaterEqual
-    ∷ stands (codes "+=") s.AddAssign ∷ stands (codes "-=") s.SubAssign ∷ stands (codes "*=") s.MulAssign
-    ∷ stands (codes "/=") s.DivAssign ∷ stands (codes "//=") s.FloorDivAssign ∷ stands (codes "%=") s.ModAssign
-    ∷ stands (codes "^=") s.PowAssign ∷ stands (codes "..=") s.ConcatAssign ∷ stands (codes "::") s.DoubleColon
-    ∷ stands (codes ";") s.Semicolon ∷ stands (codes "...") s.Dots ∷ stands (codes "->") s.Arrow
-    ∷ stands (codes "?") s.Question ∷ stands (codes "|") s.Pipe ∷ stands (codes "&") s.Ampersand
-    ∷ stands (codes "@") s.AtSign ∷ []
+    (codes "(", s.LeftParen) ∷ (codes ")", s.RightParen) ∷ (codes ",", s.Comma)
+    ∷ (codes ".", s.Dot) ∷ (codes "=", s.Assign) ∷ (codes ":", s.Colon)
+    ∷ (codes "{", s.LeftBrace) ∷ (codes "}", s.RightBrace)
+    ∷ (codes "[", s.LeftBracket) ∷ (codes "]", s.RightBracket)
+    ∷ (codes "==", s.Equal) ∷ (codes "~=", s.NotEqual) ∷ (codes "..", s.DoubleDot)
+    ∷ (codes "+", s.Plus) ∷ (codes "-", s.Minus) ∷ (codes "*", s.Star)
+    ∷ (codes "/", s.Slash) ∷ (codes "//", s.DoubleSlash) ∷ (codes "%", s.Percent)
+    ∷ (codes "^", s.Caret) ∷ (codes "#", s.Hash) ∷ (codes "<", s.Less)
+    ∷ (codes ">", s.Greater) ∷ (codes "<=", s.LessEqual) ∷ (codes ">=", s.GreaterEqual)
+    ∷ (codes "+=", s.AddAssign) ∷ (codes "-=", s.SubAssign) ∷ (codes "*=", s.MulAssign)
+    ∷ (codes "/=", s.DivAssign) ∷ (codes "//=", s.FloorDivAssign) ∷ (codes "%=", s.ModAssign)
+    ∷ (codes "^=", s.PowAssign) ∷ (codes "..=", s.ConcatAssign) ∷ (codes "::", s.DoubleColon)
+    ∷ (codes ";", s.Semicolon) ∷ (codes "...", s.Dots) ∷ (codes "->", s.Arrow)
+    ∷ (codes "?", s.Question) ∷ (codes "|", s.Pipe) ∷ (codes "&", s.Ampersand)
+    ∷ (codes "@", s.AtSign) ∷ []
 
 abbrev pub symbol_by : Kind → List ℕ → Symbol
 symbol_by kind.Name bytes = s.Name

@@ -1,7 +1,10 @@
-ghost use Rattle.std.specs.Prelude.{◌≡◌, ◌≤◌, ◌<◌, length, map, IfOk};
+ghost use Rattle.std.specs.Prelude.{◌≡◌, ◌≤◌, ◌<◌, ◌==◌, length, map, take, drop, IfOk};
+ghost use Rattle.std.specs.List.{list_any};
 ghost use Rattle.luau_lex.specs.Tokens.{seen_token};
 ghost use Rattle.luau_parse.specs.Places as places;
-ghost use Rattle.luau_parse.specs.Modules.{on_one_line, before};
+ghost use Rattle.luau_parse.specs.Modules.{on_one_line, before, max_level};
+ghost use Rattle.luau_parse.specs.Expressions as expressions;
+ghost use Rattle.luau_parse.specs.ReadTypes as types;
 ghost use Rattle.luau_parse.specs.Reading as reading;
 ghost use Rattle.luau_parse.specs.Reading.{strictly, ◌>>◌, pure};
 ghost use Rattle.luau_parse.specs.Outcomes.{Reads, place_of, itself};
@@ -23,15 +26,40 @@ pub struct Tokens<'t, 's> {
     level: u32,
 }
 
+/// One level deeper, where anything may be opened.
+#[tactic(auto, unfolding(crate::specs::Reading::deeper))]
+pub fn deeper(level: u32) -> u32
+    ensures { result ≡ reading.deeper max_level level }
+{
+    if level > MAX_LEVEL { level } else { level + 1 }
+}
+
+/// What is behind the first bytes of a text, so many.
+fn behind(text: &[u8], n: usize) -> &[u8]
+    ensures { result.now ≡ drop n text.now }
+{
+    if n <= text.len() { &text[n..] } else { &[] }
+}
+
+/// The first bytes of a text, so many.
+fn front(text: &[u8], n: usize) -> &[u8]
+    ensures { result.now ≡ take n text.now }
+{
+    if n <= text.len() { &text[..n] } else { text }
+}
+
+fn has_line_feed(text: &[u8]) -> bool
+    ensures { result ≡ list_any (λ b. b == 10) text.now }
+{
+    text.iter().any(|b| *b == b'\n')
+}
+
 /// Whether no line feed stands in a text between two offsets.
 fn on_one_line(text: &[u8], from: u32, to: u32) -> bool
     ensures { result ≡ on_one_line text.now from to }
 {
-    let from = from as usize;
-    let to = to as usize;
-    let rest = &text[from.min(text.len())..];
-    let gap = &rest[..to.saturating_sub(from).min(rest.len())];
-    !gap.iter().any(|b| *b == b'\n')
+    let gap = to.saturating_sub(from) as usize;
+    !has_line_feed(front(behind(text, from as usize), gap))
 }
 
 impl<'t, 's> Tokens<'t, 's> {
@@ -82,15 +110,34 @@ impl<'t, 's> Tokens<'t, 's> {
         same(self.symbol_behind(), symbol)
     }
 
+    /// The bytes of the next token.
+    fn bytes(&self) -> &[u8]
+        ensures { result.now ≡ places.first_bytes (place_of self.now).ahead }
+    {
+        match self.ahead.first() {
+            None => &[],
+            Some(token) => token.text,
+        }
+    }
+
+    /// Whether a prefix goes on: `.`, `[`, `:` or arguments.
+    pub fn sees_suffix(&self) -> bool
+        ensures { result ≡ expressions.begins_suffix (place_of self.now) }
+    {
+        self.sees(Symbol::Dot)
+            || self.sees(Symbol::LeftBracket)
+            || self.sees(Symbol::Colon)
+            || self.sees(Symbol::LeftParen)
+            || self.sees(Symbol::LeftBrace)
+            || self.sees(Symbol::Text)
+    }
+
     /// Whether the next token is this name, which is a word where the grammar has it.
     #[tactic(auto, unfolding(crate::specs::Places::sees_word))]
     pub fn sees_word(&self, word: &[u8]) -> bool
         ensures { result ≡ places.sees_word word.now (place_of self.now) }
     {
-        match self.ahead.first() {
-            None => false,
-            Some(token) => same(symbol_of(token), Symbol::Name) && token.text == word,
-        }
+        self.sees(Symbol::Name) && self.bytes() == word
     }
 
     /// Where the next token begins.
@@ -170,18 +217,16 @@ impl<'t, 's> Tokens<'t, 's> {
         requires { length text.now ≤ MAX_TEXT }
         ensures { Reads seen_token (reading.next (strictly text.now) (place_of self.old)) result self.new }
     {
-        match self.ahead.split_first() {
-            None => Err(ParseError::UnexpectedEnd(text.len() as u32)),
-            Some((token, ahead)) => {
-                let token = *token;
-                if self.level > MAX_LEVEL {
-                    return Err(ParseError::Nesting(token.span.start));
-                }
-                self.ahead = ahead;
-                self.last = token.span.end;
-                Ok(token)
-            }
+        let Some(token) = self.ahead.first() else {
+            return Err(ParseError::UnexpectedEnd(text.len() as u32));
+        };
+        let token = *token;
+        if self.level > MAX_LEVEL {
+            return Err(ParseError::Nesting(token.span.start));
         }
+        self.ahead = &self.ahead[1..];
+        self.last = token.span.end;
+        Ok(token)
     }
 
     /// Takes the next token, which is to be this symbol.
@@ -204,6 +249,19 @@ impl<'t, 's> Tokens<'t, 's> {
         ensures { Reads itself (reading.eat (strictly text.now) symbol (place_of self.old)) result self.new }
     {
         if !self.sees(symbol) {
+            return Ok(false);
+        }
+        let _token = self.next(text)?;
+        Ok(true)
+    }
+
+    /// Takes a `,` or a `;`, and whether one stands there.
+    #[tactic(auto, unfolding(crate::specs::ReadTypes::separator))]
+    pub fn separator(&mut self, text: &[u8]) -> Result<bool, ParseError>
+        requires { length text.now ≤ MAX_TEXT }
+        ensures { Reads itself (types.separator (strictly text.now) (place_of self.old)) result self.new }
+    {
+        if !self.sees(Symbol::Comma) && !self.sees(Symbol::Semicolon) {
             return Ok(false);
         }
         let _token = self.next(text)?;
@@ -236,17 +294,20 @@ impl<'t, 's> Tokens<'t, 's> {
     }
 
     /// Takes the parenthesis that begins arguments.
-    #[tactic(auto, unfolding(crate::specs::Reading::open_arguments))]
+    #[tactic(auto, unfolding(crate::specs::Reading::open_arguments, crate::specs::Reading::refusal, crate::specs::Places::sees, crate::specs::Places::symbol))]
     pub fn open_arguments(&mut self, text: &[u8]) -> Result<(), ParseError>
         requires { length text.now ≤ MAX_TEXT }
         ensures { Reads itself (reading.open_arguments (strictly text.now) (place_of self.old)) result self.new }
     {
-        if !self.sees(Symbol::LeftParen) {
-            return Err(self.refusal(text));
+        let Some(token) = self.ahead.first() else {
+            return Err(ParseError::UnexpectedEnd(text.len() as u32));
+        };
+        let start = token.span.start;
+        if !same(symbol_of(token), Symbol::LeftParen) {
+            return Err(ParseError::Unexpected(start));
         }
-        let at = self.start();
-        if !on_one_line(text, self.last, at) {
-            return Err(ParseError::AmbiguousCall(at));
+        if !on_one_line(text, self.last, start) {
+            return Err(ParseError::AmbiguousCall(start));
         }
         let _token = self.next(text)?;
         Ok(())
