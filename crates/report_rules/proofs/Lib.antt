@@ -1,0 +1,2 @@
+pub mod DeadFacts
+pub mod PlaceFacts
