@@ -11,4 +11,5 @@ pub mod Errors
 pub mod Statements
 pub mod Findings
 pub mod Reports
+pub mod Places
 pub mod rows

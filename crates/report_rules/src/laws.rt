@@ -10,10 +10,13 @@ ghost use Rattle.report_rules.specs.Effects.{effects};
 ghost use Rattle.report_rules.specs.TypeMap.{TypeMap};
 ghost use Rattle.report_rules.specs.Forward.{after};
 ghost use Rattle.report_rules.specs.After.{after_stat, after_block, summary};
-ghost use Rattle.report_rules.specs.Seen.{Seen, is_live};
+ghost use Rattle.report_rules.specs.Seen.{Seen, is_live, seen_module};
 ghost use Rattle.subtype_check.specs.Below.{below};
 ghost use Rattle.report_rules.specs.Context.{Context};
+ghost use Rattle.luau_run.specs.SyntaxNode.{of_block};
 ghost use Rattle.report_rules.specs.Findings.{parameter_kinds};
+ghost use Rattle.report_rules.specs.Places.{places_of, found_at, AreLive};
+ghost use Rattle.report_rules.specs.Reports.{findings};
 ghost use Rattle.report_rules.specs.Checks.{ReportKind, check};
 
 /// A dead map stays dead, whatever comes.
@@ -50,4 +53,17 @@ pub fn larger_sets_report_more()
     ensures parameter { (rules : Rules) (live : Bool) (annotation : Term) (small large : Context) (bind : Bind)
         → ((x : ℕ) → below (small x) (large x) ≡ true)
         → parameter_kinds rules live annotation small bind ≢ [] → parameter_kinds rules live annotation large bind ≢ [] }
+{}
+
+/// Each expression of a module and each parameter of its functions has one entry of findings, in
+/// the order of the text.
+#[tactic(auto, using(crate::proofs::FoundPlaces::one_each))]
+pub fn places_have_one_entry_each()
+    ensures { (rules : Rules) → found_at (findings rules) ≡ places_of (of_block rules.reading.block) }
+{}
+
+/// What is reported stands at a live place.
+#[tactic(auto, using(crate::proofs::FoundLive::all_live))]
+pub fn reports_stand_at_live_places()
+    ensures { (rules : Rules) → AreLive (seen_module rules) (findings rules) }
 {}

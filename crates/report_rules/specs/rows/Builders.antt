@@ -36,8 +36,11 @@ freeze = checked_function (codes "table.freeze") (table_type ∷ []) None table_
 abbrev pub type : TypedBuiltin
 type = record { path = codes "type"; params = unknown ∷ []; rest = None; results = string_type ∷ []; more = None; checked = false; quiet = true }
 
+abbrev pub print : TypedBuiltin
+print = record { path = codes "print"; params = []; rest = Some unknown; results = []; more = None; checked = false; quiet = true }
+
 abbrev pub builtins : List TypedBuiltin
-builtins = abs ∷ clamp ∷ lower ∷ char ∷ freeze ∷ type ∷ []
+builtins = abs ∷ clamp ∷ lower ∷ char ∷ freeze ∷ type ∷ print ∷ []
 
 -- a module with statements and names, whose loose locals are these, and with the types of its functions' parameters
 abbrev pub rules_with : List StatKind → List (ℕ × Use) → (loose : List ℕ) → (annotation : ℕ → Term) → Rules

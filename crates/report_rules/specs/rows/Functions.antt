@@ -49,6 +49,10 @@ abs_x_p = CallStat (call_at 0 1 (e 12 (Index (name 2) (codes "p")) ∷ []))
 abbrev pub guarded_call : StatKind
 guarded_call = returning (e 10 (Binary And (name 9) (call_at 0 1 (name 2 ∷ []))) ∷ [])
 
+-- `repeat math.abs(x) until string.lower(x)`
+abbrev pub until_lower : StatKind
+until_lower = Repeat (block_of (abs_x ∷ [])) (call_at 3 4 (name 5 ∷ []))
+
 -- `while c do STATEMENTS end`
 abbrev pub while_c : List StatKind → StatKind
 while_c kinds = While c (block_of kinds)

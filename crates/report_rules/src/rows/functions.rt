@@ -5,8 +5,7 @@ ghost use Rattle.luau_run.specs.runs.Builders.{if_then, returning};
 ghost use Rattle.type_normal.specs.Kinds.{nil_type, string_type, field_is};
 ghost use Rattle.report_rules.specs.Checks.{Argument, ValueOf, ParameterOf};
 ghost use Rattle.report_rules.specs.rows.Builders.{told, at, parameter};
-ghost use Rattle.report_rules.specs.rows.Functions.{abs_x, lower_x, abs_x_p, c, with_x, with_annotated_x, choosing, is_number, guarded_call, while_c, repeated, captured, broken_off, counting, p_added};
-ghost use Rattle.luau_tree.specs.Tree.{Repeat};
+ghost use Rattle.report_rules.specs.rows.Functions.{abs_x, lower_x, abs_x_p, c, with_x, with_annotated_x, choosing, is_number, guarded_call, while_c, repeated, captured, broken_off, counting, p_added, until_lower};
 
 /// A parameter is reported where the body fails with each of its values.
 pub fn parameters()
@@ -28,6 +27,7 @@ pub fn loops()
     ensures while_body { told (with_x (while_c (abs_x ∷ []) ∷ lower_x ∷ [])) ≡ [] }
     ensures behind_while { told (with_x (while_c [] ∷ abs_x ∷ lower_x ∷ [])) ≡ (parameter 0 0, ParameterOf (codes "x")) ∷ [] }
     ensures return_inside { told (with_x (while_c (returning [] ∷ []) ∷ abs_x ∷ lower_x ∷ [])) ≡ [] }
+    ensures until_counts { told (with_x (until_lower ∷ [])) ≡ (parameter 0 0, ParameterOf (codes "x")) ∷ [] }
     ensures value_before_repeat { told repeated ≡ (at 30, ValueOf (codes "x")) ∷ [] }
     ensures value_before_break { told broken_off ≡ (at 21, ValueOf (codes "x")) ∷ [] }
     ensures field_in_loop { told (counting []) ≡ (at 12, Argument 0 (codes "math.abs")) ∷ [] }
