@@ -1,0 +1,4 @@
+pub mod DeadFacts
+pub mod PlaceFacts
+pub mod FoundPlaces
+pub mod FoundLive

@@ -1,0 +1,15 @@
+pub mod Rules
+pub mod Effects
+pub mod Guard
+pub mod TypeMap
+pub mod Forward
+pub mod After
+pub mod Seen
+pub mod Context
+pub mod Checks
+pub mod Errors
+pub mod Statements
+pub mod Findings
+pub mod Reports
+pub mod Places
+pub mod rows
