@@ -37,11 +37,11 @@ abbrev mutual
   is_above (term free rows) (term other others) = free_below other free && each_row (λ frozen fields. rows_above rows frozen fields) others
 
   pub rows_above : Rows → Bool → Fields → Bool
-  rows_above no_rows frozen fields = false
+  rows_above no_rows frozen _ = false
   rows_above (more_rows upper_frozen upper rows) frozen fields = ((frozen || not upper_frozen) && fields_above upper fields) || rows_above rows frozen fields
 
   pub fields_above : Fields → Fields → Bool
-  fields_above no_fields fields = true
+  fields_above no_fields _ = true
   fields_above (more_fields name type upper) fields = is_above type (listed_type name fields) && fields_above upper fields
 
 -- the one type is below the other
