@@ -1,12 +1,11 @@
 -- A dead map stays dead, whatever comes.
-use Rattle.std.proofs.Common.{◌≡◌, ℕ, Bool, true, false, not, ◌&&◌, ◌||◌, List, [], ◌∷◌, Some, None, Option, filter, if◌then◌else◌, refl, sym, true≢false}
+use Rattle.std.proofs.Common.{◌≡◌, ℕ, Bool, true, false, not, ◌&&◌, ◌||◌, List, [], ◌∷◌, Some, None, filter, if◌then◌else◌, refl, sym, true≢false}
 use Rattle.std.specs.List.{list_any}
 use Rattle.luau_tree.specs.declared.position.Span.{Span}
-use Rattle.luau_tree.specs.Tree.{Block, no_stats, more_stats, Stat, the_stat, StatKind, Assign, Compound, CallStat, Do, While, Repeat, If, NumFor, GenFor, FunctionStat, LocalFunction, Local, TypeAlias, TypeFunction, Return, Break, Continue, Arms, no_arms, more_arms, MaybeBlock, no_block, a_block, Expr, Exprs, MaybeExpr, no_expr, an_expr}
+use Rattle.luau_tree.specs.Tree.{Block, no_stats, more_stats, Stat, the_stat, StatKind, Assign, Compound, CallStat, Do, While, Repeat, If, NumFor, GenFor, FunctionStat, LocalFunction, Local, TypeAlias, TypeFunction, Return, Break, Continue, Arms, no_arms, more_arms, MaybeBlock, no_block, a_block, Expr, MaybeExpr, no_expr, an_expr}
 use Rattle.type_arena.specs.Term.{Term}
 use Rattle.type_normal.specs.Rows.{is_empty}
 use Rattle.type_normal.specs.HeapFree.{widen_at}
-use Rattle.type_normal.specs.Kinds.{number_type}
 use Rattle.type_normal.specs.Field.{with_row_field}
 use Rattle.report_rules.specs.Rules.{Rules, loose}
 use Rattle.report_rules.specs.Effects.{Target, OfLocal, OfGlobal, OfField, OfElement, effects, any_effects, last_expands, target_of, targets_of, function_target, local_of_bind, locals_of_binds}

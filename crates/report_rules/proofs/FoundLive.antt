@@ -1,5 +1,5 @@
 -- What is reported stands at a live place.
-use Rattle.std.proofs.Common.{◌≡◌, ◌≢◌, ℕ, zero, suc, Bool, true, false, not, ◌&&◌, List, [], ◌∷◌, ◌++◌, Some, None, Option, if◌then◌else◌, refl, ap, true≢false}
+use Rattle.std.proofs.Common.{◌≡◌, ◌≢◌, ℕ, suc, Bool, true, false, not, ◌&&◌, List, [], ◌∷◌, ◌++◌, Some, None, Option, if◌then◌else◌, refl, ap, true≢false}
 use Rattle.luau_tree.specs.declared.position.Span.{Span}
 use Rattle.luau_tree.specs.declared.names.BinOp.{BinOp}
 use Rattle.luau_tree.specs.declared.names.Op.TheVariants.{Call as CallOp, Index as IndexOp, Write as WriteOp, For as ForOp, Iterate as IterateOp, Unary as UnaryOp, Binary as BinaryOp}

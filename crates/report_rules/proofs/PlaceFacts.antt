@@ -1,13 +1,12 @@
 -- What is reported is live, and what a module gives is heap-free.
 use Rattle.std.proofs.Common.{◌≡◌, ◌≢◌, ℕ, Bool, true, false, not, ◌&&◌, List, [], ◌∷◌, if◌then◌else◌, refl, sym, true≢false}
-use Rattle.luau_tree.specs.Tree.{Expr, Block, Bind, the_bind}
+use Rattle.luau_tree.specs.Tree.{Expr, Bind, the_bind}
 use Rattle.luau_run.specs.Statements.{place_of}
 use Rattle.type_arena.specs.Term.{Term}
 use Rattle.type_normal.specs.Rows.{is_empty}
 use Rattle.type_normal.specs.Operations.{union}
 use Rattle.type_normal.specs.Kinds.{nil_type}
 use Rattle.type_normal.specs.HeapFree.{heap_free, widen}
-use Rattle.type_normal.specs.Cut.{cut_up}
 use Rattle.type_normal.proofs.Public.{widen_free, cut_up_free}
 use Rattle.subtype_check.specs.Below.{below}
 use Rattle.subtype_check.proofs.Public.{below_chain}

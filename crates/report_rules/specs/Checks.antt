@@ -1,21 +1,20 @@
 -- Checks: what makes a report, of which kind, and by which set each part of an expression is checked.
-use Rattle.std.specs.Prelude.{ℕ, zero, suc, Bool, true, false, not, ◌&&◌, List, [], ◌∷◌, ◌++◌, Option, Some, None, if◌then◌else◌}
+use Rattle.std.specs.Prelude.{ℕ, zero, suc, Bool, true, false, not, ◌&&◌, List, [], ◌∷◌, Option, Some, None, if◌then◌else◌}
 use Rattle.luau_tree.specs.declared.names.BinOp.{BinOp}
 use Rattle.luau_tree.specs.declared.names.BinOp.TheVariants.{Or, And, Less, Greater, LessEqual, GreaterEqual, NotEqual, Equal}
 use Rattle.luau_tree.specs.declared.names.UnOp.{UnOp}
 use Rattle.luau_tree.specs.declared.names.UnOp.TheVariants.{Minus, Not, Length}
 use Rattle.luau_tree.specs.declared.names.Op.{Op}
-use Rattle.luau_tree.specs.declared.names.Op.TheVariants.{Unary as UnaryOp, Binary as BinaryOp}
 use Rattle.luau_tree.specs.Tree.{Expr, Exprs, no_exprs, more_exprs}
 use Rattle.luau_run.specs.Statements.{place_of}
-use Rattle.type_arena.specs.Term.{Function, builtin, literal, Term, never}
+use Rattle.type_arena.specs.Term.{Function, builtin, Term, never}
 use Rattle.type_normal.specs.Rows.{is_empty}
 use Rattle.type_normal.specs.Operations.{union, fail}
 use Rattle.type_normal.specs.Kinds.{nil_type, number_type, string_type, has_nil, exactly_one_function}
 use Rattle.type_normal.specs.Failing.{arith_fail, length_fail, order_fail_with_number, order_fail_with_string}
 use Rattle.subtype_check.specs.Below.{below}
 use Rattle.report_rules.specs.Rules.{TypedBuiltin, Rules, declared}
-use Rattle.report_rules.specs.Effects.{expands, last_expands}
+use Rattle.report_rules.specs.Effects.{last_expands}
 use Rattle.report_rules.specs.Forward.{not_other}
 use Rattle.report_rules.specs.Seen.{Seen, type_at, is_live}
 

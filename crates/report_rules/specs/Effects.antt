@@ -1,8 +1,7 @@
 -- What syntax may do, seen by its form alone. Nothing of it looks into function literals, which run when they are called.
 use Rattle.std.specs.Prelude.{ℕ, Bool, true, false, not, ◌==◌, ◌||◌, List, [], ◌∷◌, Option, Some, None}
-use Rattle.std.specs.Option.{option_map_or}
 use Rattle.luau_tree.specs.Tree.{Block, no_stats, more_stats, Stat, the_stat, StatKind, Assign, Compound, CallStat, Do, While, Repeat, If, NumFor, GenFor, FunctionStat, LocalFunction, Local, Return, Break, Continue, Arms, no_arms, more_arms, MaybeBlock, no_block, a_block}
-use Rattle.luau_tree.specs.Tree.{Expr, the_expr, Exprs, no_exprs, more_exprs, MaybeExpr, no_expr, an_expr, ExprKind, StrExpr, Vararg, NameExpr, Index, At, Call, Method, Paren, Unary, Binary, IfElse, TableExpr, Interp, Assert, Choices, no_choices, more_choices, Item, Field, Keyed, Plain, Items, no_items, more_items}
+use Rattle.luau_tree.specs.Tree.{Expr, the_expr, Exprs, no_exprs, more_exprs, MaybeExpr, no_expr, an_expr, ExprKind, StrExpr, Vararg, Index, At, Call, Method, Paren, Unary, Binary, IfElse, TableExpr, Interp, Assert, Choices, no_choices, more_choices, Item, Field, Keyed, Plain, Items, no_items, more_items}
 use Rattle.luau_tree.specs.Tree.{Bind, the_bind, Binds, no_binds, more_binds}
 use Rattle.luau_run.specs.ReadFolder.{is_among}
 use Rattle.report_rules.specs.Rules.{Rules, local_named, is_quiet_call}
@@ -234,3 +233,27 @@ abbrev mutual
   pub returns_maybe : MaybeBlock → Bool
   returns_maybe no_block = false
   returns_maybe (a_block body) = returns_block body
+
+-- whether a `break` or `continue` of a loop around a statement stands in it
+abbrev mutual
+  pub breaks : Stat → Bool
+  breaks (the_stat span kind) = breaks_in kind
+
+  pub breaks_in : StatKind → Bool
+  breaks_in (Do body) = breaks_block body
+  breaks_in (If arms last) = breaks_arms arms || breaks_maybe last
+  breaks_in Break = true
+  breaks_in Continue = true
+  breaks_in _ = false
+
+  pub breaks_block : Block → Bool
+  breaks_block no_stats = false
+  breaks_block (more_stats s rest) = breaks s || breaks_block rest
+
+  pub breaks_arms : Arms → Bool
+  breaks_arms no_arms = false
+  breaks_arms (more_arms cond body rest) = breaks_block body || breaks_arms rest
+
+  pub breaks_maybe : MaybeBlock → Bool
+  breaks_maybe no_block = false
+  breaks_maybe (a_block body) = breaks_block body

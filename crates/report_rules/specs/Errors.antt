@@ -1,11 +1,11 @@
 -- The context under which evaluating an expression fails, or gives a first value in a set.
-use Rattle.std.specs.Prelude.{ℕ, zero, suc, Bool, true, false, List, [], ◌∷◌, Option, Some, None, if◌then◌else◌}
+use Rattle.std.specs.Prelude.{ℕ, suc, Bool, false, List, [], ◌∷◌, Option, Some, None, if◌then◌else◌}
 use Rattle.luau_tree.specs.declared.names.BinOp.{BinOp}
 use Rattle.luau_tree.specs.declared.names.BinOp.TheVariants.{Or, And}
 use Rattle.luau_tree.specs.declared.names.UnOp.{UnOp}
 use Rattle.luau_tree.specs.declared.names.Op.TheVariants.{Call as CallOp, Index as IndexOp, Unary as UnaryOp, Binary as BinaryOp}
 use Rattle.luau_tree.specs.Tree.{Expr, the_expr, Exprs, no_exprs, more_exprs, ExprKind, StrExpr, NameExpr, Index, At, Call, Method, Paren, Unary, Binary, IfElse, TableExpr, Interp, Assert, Choices, no_choices, more_choices, Item, Field, Keyed, Plain, Items, no_items, more_items}
-use Rattle.luau_run.specs.ReadModule.{Use, UseLocal, UseBuiltin}
+use Rattle.luau_run.specs.ReadModule.{Use, UseBuiltin}
 use Rattle.luau_run.specs.ReadFolder.{local_of}
 use Rattle.type_arena.specs.Term.{Term, never}
 use Rattle.type_normal.specs.Operations.{union, meet}
@@ -15,7 +15,7 @@ use Rattle.report_rules.specs.Rules.{TypedBuiltin, Rules}
 use Rattle.report_rules.specs.Effects.{expands, effects, any_effects, effects_of_item}
 use Rattle.report_rules.specs.Seen.{Seen}
 use Rattle.report_rules.specs.Context.{Context, none, only_for, join, branch, pass, followed}
-use Rattle.report_rules.specs.Checks.{ReportKind, Operand, type_of, check, left, left_of, operand_set, unary_set, checked_callee, argument_left}
+use Rattle.report_rules.specs.Checks.{ReportKind, Operand, type_of, check, left, operand_set, unary_set, checked_callee, argument_left}
 
 -- an expression that is a builtin's path is that builtin, whatever its form
 abbrev pub unless_builtin : Option Use → Context → Context

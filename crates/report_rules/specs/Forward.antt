@@ -5,10 +5,10 @@ use Rattle.luau_tree.specs.declared.names.BinOp.{BinOp}
 use Rattle.luau_tree.specs.declared.names.BinOp.TheVariants.{Or, And, Less, Greater, LessEqual, GreaterEqual, NotEqual, Equal, Concat}
 use Rattle.luau_tree.specs.declared.names.UnOp.{UnOp}
 use Rattle.luau_tree.specs.declared.names.UnOp.TheVariants.{Not}
-use Rattle.luau_tree.specs.Tree.{Expr, the_expr, Exprs, no_exprs, more_exprs, ExprKind, NilExpr, TrueExpr, FalseExpr, NumberExpr, StrExpr, Vararg, FunctionExpr, NameExpr, Index, At, Call, Method, Paren, Unary, Binary, IfElse, TableExpr, Interp, Assert, Choices, no_choices, more_choices, Item, Field, Keyed, Plain, Items, no_items, more_items, Body, the_body}
-use Rattle.luau_run.specs.ReadModule.{Use, UseLocal, UseBuiltin, UseLibrary, UseGlobal}
+use Rattle.luau_tree.specs.Tree.{Expr, the_expr, Exprs, no_exprs, more_exprs, ExprKind, NilExpr, TrueExpr, FalseExpr, NumberExpr, StrExpr, Vararg, FunctionExpr, NameExpr, Index, At, Call, Method, Paren, Unary, Binary, IfElse, TableExpr, Interp, Assert, Choices, no_choices, more_choices, Item, Field, Keyed, Plain, Items, no_items, more_items, Body}
+use Rattle.luau_run.specs.ReadModule.{Use, UseLocal, UseBuiltin, UseLibrary}
 use Rattle.luau_run.specs.Expressions.{number_of}
-use Rattle.type_arena.specs.Term.{Function, builtin, literal, Free, Term, term, Fields, no_fields, never}
+use Rattle.type_arena.specs.Term.{Function, builtin, literal, Term, term, Fields, no_fields, never}
 use Rattle.type_normal.specs.Members.{is_no_set}
 use Rattle.type_normal.specs.Operations.{union, meet, not_free, put_field}
 use Rattle.type_normal.specs.Kinds.{unknown, nil_type, true_type, false_type, boolean_type, number_type, string_type, other_type, table_type, text_type, named_type, row_type, falsy, truthy, exactly_one_function}

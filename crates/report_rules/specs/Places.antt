@@ -4,7 +4,7 @@ use Rattle.luau_tree.specs.declared.names.Place.{Place}
 use Rattle.luau_tree.specs.declared.names.Place.TheVariants.{Expr as ExprPlace, Param as ParamPlace}
 use Rattle.luau_tree.specs.Tree.{the_expr, the_body, Binds, no_binds, more_binds}
 use Rattle.luau_run.specs.SyntaxNode.{SyntaxNode, AnExpr, ABody, ABind}
-use Rattle.report_rules.specs.Seen.{Seen, is_live, is_body_live}
+use Rattle.report_rules.specs.Seen.{Seen, SeenExpr, SeenBody, is_live, is_body_live}
 use Rattle.report_rules.specs.Findings.{Finding}
 
 -- the parameters of a body from a position on
@@ -32,3 +32,21 @@ is_place_live seen (ParamPlace function index) = is_body_live seen function.0
 abbrev pub AreLive : List Seen → List Finding → Type 0
 AreLive seen [] = ⊤
 AreLive seen (finding ∷ findings) = (finding.kinds ≢ [] → is_place_live seen finding.place ≡ true) × AreLive seen findings
+
+-- an expression or a body by its number
+pub data Numbered : Type 0 where
+  NumberedExpr : (id : ℕ) → Numbered
+  NumberedBody : (id : ℕ) → Numbered
+
+-- the expressions and bodies of syntax, in the order of the text
+abbrev pub numbered : List SyntaxNode → List Numbered
+numbered [] = []
+numbered (AnExpr (the_expr id span kind) ∷ nodes) = NumberedExpr id ∷ numbered nodes
+numbered (ABody (the_body id has_self generics params vararg result block span) ∷ nodes) = NumberedBody id ∷ numbered nodes
+numbered (ABind bind ∷ nodes) = numbered nodes
+
+-- those that are seen
+abbrev pub seen_numbers : List Seen → List Numbered
+seen_numbers [] = []
+seen_numbers (SeenExpr id type live ∷ seen) = NumberedExpr id ∷ seen_numbers seen
+seen_numbers (SeenBody id live ∷ seen) = NumberedBody id ∷ seen_numbers seen

@@ -3,7 +3,7 @@ use Rattle.std.specs.Prelude.{ℕ, suc, List, [], ◌∷◌, ◌++◌, map}
 use Rattle.luau_tree.specs.declared.position.Span.{Span}
 use Rattle.luau_tree.specs.declared.names.Place.{Place}
 use Rattle.report_rules.specs.Rules.{Rules}
-use Rattle.report_rules.specs.Seen.{Seen, seen_module}
+use Rattle.report_rules.specs.Seen.{seen_module}
 use Rattle.report_rules.specs.Context.{none}
 use Rattle.report_rules.specs.Checks.{ReportKind}
 use Rattle.report_rules.specs.Findings.{Finding, found_block}

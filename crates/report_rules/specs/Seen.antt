@@ -1,16 +1,14 @@
 -- The types of a module's expressions, in the order of the text, each in the map at its turn, and which places are live.
-use Rattle.std.specs.Prelude.{ℕ, Bool, true, false, not, ◌==◌, List, [], ◌∷◌, ◌++◌, Option, Some, None, if◌then◌else◌}
+use Rattle.std.specs.Prelude.{ℕ, Bool, true, false, not, ◌==◌, List, [], ◌∷◌, ◌++◌, Some, None, if◌then◌else◌}
 use Rattle.luau_tree.specs.declared.position.Span.{Span}
-use Rattle.luau_tree.specs.declared.names.BinOp.{BinOp}
 use Rattle.luau_tree.specs.declared.names.BinOp.TheVariants.{Or, And}
 use Rattle.luau_tree.specs.Tree.{Block, no_stats, more_stats, Stat, the_stat, StatKind, Assign, Compound, CallStat, Do, While, Repeat, If, NumFor, GenFor, FunctionStat, LocalFunction, Local, Return, Arms, no_arms, more_arms, MaybeBlock, no_block, a_block}
 use Rattle.luau_tree.specs.Tree.{Expr, the_expr, Exprs, no_exprs, more_exprs, MaybeExpr, no_expr, an_expr, ExprKind, FunctionExpr, Index, At, Call, Method, Paren, Unary, Binary, IfElse, TableExpr, Interp, Assert, Choices, no_choices, more_choices, Item, Field, Keyed, Plain, Items, no_items, more_items}
 use Rattle.luau_tree.specs.Tree.{Body, the_body}
-use Rattle.luau_run.specs.Expressions.{number_of}
 use Rattle.type_arena.specs.Term.{Term}
 use Rattle.type_normal.specs.Kinds.{unknown}
 use Rattle.report_rules.specs.Rules.{Rules}
-use Rattle.report_rules.specs.Effects.{effects, effects_of_item, locals_of_binds, local_of_bind}
+use Rattle.report_rules.specs.Effects.{effects_of_item, locals_of_binds, local_of_bind}
 use Rattle.report_rules.specs.TypeMap.{TypeMap, no_map, set, refine, body_map}
 use Rattle.report_rules.specs.Forward.{typ, type_of_target, literal_type, after, after_list, after_part}
 use Rattle.report_rules.specs.After.{after_stat, while_head, while_map, repeat_map, number_map, iteration_map}

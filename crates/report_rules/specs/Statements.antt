@@ -1,10 +1,10 @@
 -- The context before a statement, from the contexts behind it, at `break` and at `continue`.
-use Rattle.std.specs.Prelude.{ℕ, Bool, true, false, ◌||◌, List, [], ◌∷◌, ◌++◌, Option, Some, None, if◌then◌else◌}
+use Rattle.std.specs.Prelude.{ℕ, List, [], ◌∷◌, Option, Some, None, if◌then◌else◌}
 use Rattle.luau_tree.specs.declared.position.Span.{Span}
 use Rattle.luau_tree.specs.declared.names.BinOp.{BinOp}
-use Rattle.luau_tree.specs.declared.names.Op.TheVariants.{Index as IndexOp, Write as WriteOp, For as ForOp, Iterate as IterateOp, Binary as BinaryOp}
+use Rattle.luau_tree.specs.declared.names.Op.TheVariants.{Write as WriteOp, For as ForOp, Iterate as IterateOp, Binary as BinaryOp}
 use Rattle.luau_tree.specs.Tree.{Block, no_stats, more_stats, Stat, the_stat, StatKind, Assign, Compound, CallStat, Do, While, Repeat, If, NumFor, GenFor, FunctionStat, LocalFunction, Local, Return, Break, Continue, Arms, no_arms, more_arms, MaybeBlock, no_block, a_block}
-use Rattle.luau_tree.specs.Tree.{Expr, the_expr, Exprs, no_exprs, more_exprs, MaybeExpr, no_expr, an_expr, StrExpr, NameExpr, Index, At, Bind, the_bind, Binds, no_binds, more_binds}
+use Rattle.luau_tree.specs.Tree.{Expr, the_expr, Exprs, no_exprs, more_exprs, MaybeExpr, no_expr, an_expr, StrExpr, NameExpr, Index, At, the_bind, Binds, no_binds, more_binds}
 use Rattle.type_arena.specs.Term.{Term, never}
 use Rattle.type_normal.specs.Operations.{union}
 use Rattle.type_normal.specs.Kinds.{field_is}
@@ -13,8 +13,8 @@ use Rattle.report_rules.specs.Rules.{Rules, local_named}
 use Rattle.report_rules.specs.Effects.{Target, OfLocal, OfGlobal, OfField, OfElement, target_of, targets_of, function_target, effects, any_effects, local_of_bind, locals_of_binds, stirs, touches, returns_block}
 use Rattle.report_rules.specs.Seen.{Seen}
 use Rattle.report_rules.specs.Context.{Context, none, join, branch, stripped, stripped_at, without, pass, followed}
-use Rattle.report_rules.specs.Checks.{ReportKind, Operand, ValueOf, type_of, check, left, left_of, operand_set}
-use Rattle.report_rules.specs.Errors.{ev, ev_parts, index_kinds, name_context}
+use Rattle.report_rules.specs.Checks.{ReportKind, Operand, ValueOf, type_of, check, left, operand_set}
+use Rattle.report_rules.specs.Errors.{ev, index_kinds, name_context}
 
 -- what is reported of a base that is written
 abbrev pub write_kinds : List Seen → Expr → List ReportKind

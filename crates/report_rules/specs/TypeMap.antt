@@ -1,5 +1,5 @@
 -- What is known of the locals at a point of a module.
-use Rattle.std.specs.Prelude.{ℕ, Bool, true, false, not, ◌==◌, ◌&&◌, ◌||◌, List, [], ◌∷◌, Option, Some, None, if◌then◌else◌, filter}
+use Rattle.std.specs.Prelude.{ℕ, Bool, true, false, not, ◌==◌, ◌&&◌, ◌||◌, List, [], ◌∷◌, Some, if◌then◌else◌, filter}
 use Rattle.std.specs.List.{list_any}
 use Rattle.luau_tree.specs.Tree.{Expr, Stat}
 use Rattle.type_arena.specs.Term.{Term, never}
@@ -10,7 +10,7 @@ use Rattle.type_normal.specs.HeapFree.{widen, widen_at}
 use Rattle.type_normal.specs.Cut.{cut_up}
 use Rattle.type_normal.specs.Field.{with_row_field}
 use Rattle.report_rules.specs.Rules.{Rules, loose}
-use Rattle.report_rules.specs.Effects.{Target, OfLocal, OfField, OfElement, is_in_table, stirs, touches}
+use Rattle.report_rules.specs.Effects.{Target, OfLocal, OfField, OfElement, stirs, touches}
 use Rattle.report_rules.specs.Guard.{guard, guarded}
 
 -- a map gives each local a type, unknown where nothing is known. A dead map is that of a place that no run reaches

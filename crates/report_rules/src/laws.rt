@@ -15,7 +15,7 @@ ghost use Rattle.subtype_check.specs.Below.{below};
 ghost use Rattle.report_rules.specs.Context.{Context};
 ghost use Rattle.luau_run.specs.SyntaxNode.{of_block};
 ghost use Rattle.report_rules.specs.Findings.{parameter_kinds};
-ghost use Rattle.report_rules.specs.Places.{places_of, found_at, AreLive};
+ghost use Rattle.report_rules.specs.Places.{places_of, found_at, AreLive, numbered, seen_numbers};
 ghost use Rattle.report_rules.specs.Reports.{findings};
 ghost use Rattle.report_rules.specs.Checks.{ReportKind, check};
 
@@ -66,4 +66,11 @@ pub fn places_have_one_entry_each()
 #[tactic(auto, using(crate::proofs::FoundLive::all_live))]
 pub fn reports_stand_at_live_places()
     ensures { (rules : Rules) → AreLive (seen_module rules) (findings rules) }
+{}
+
+/// Each expression of a module and each of its bodies has one entry of what is seen, in the order
+/// of the text.
+#[tactic(auto, using(crate::proofs::SeenPlaces::one_seen))]
+pub fn expressions_are_seen_once()
+    ensures { (rules : Rules) → seen_numbers (seen_module rules) ≡ numbered (of_block rules.reading.block) }
 {}

@@ -1,14 +1,13 @@
 -- What worked rows are built of: a few declared builtins, modules over them, and what is told of a module.
-use Rattle.std.specs.Prelude.{ℕ, Bool, true, false, List, [], ◌∷◌, Option, Some, None, codes, map}
+use Rattle.std.specs.Prelude.{ℕ, true, false, List, [], ◌∷◌, Option, Some, None, codes, map}
 use Rattle.luau_tree.specs.declared.names.Place.{Place}
 use Rattle.luau_tree.specs.declared.names.Place.TheVariants.{Expr as ExprPlace, Param as ParamPlace}
-use Rattle.luau_tree.specs.Tree.{StatKind, Expr, NameExpr, Index, Call, ExprKind, the_bind, no_binds, more_binds, Bind, Binds, no_type, Body, LocalFunction}
-use Rattle.luau_run.specs.ReadModule.{Use, UseLocal, UseBuiltin, UseLibrary, UseGlobal, ReadModule}
+use Rattle.luau_tree.specs.Tree.{StatKind, Expr, NameExpr, the_bind, no_binds, more_binds, Bind, Binds, no_type, LocalFunction}
+use Rattle.luau_run.specs.ReadModule.{Use}
 use Rattle.luau_run.specs.ReadFolder.{is_among}
 use Rattle.luau_run.specs.runs.Builders.{e, call_of, body_of, module_of}
 use Rattle.type_arena.specs.Term.{Term}
-use Rattle.type_normal.specs.Operations.{union}
-use Rattle.type_normal.specs.Kinds.{unknown, nil_type, number_type, string_type, table_type}
+use Rattle.type_normal.specs.Kinds.{unknown, number_type, string_type, table_type}
 use Rattle.report_rules.specs.Rules.{TypedBuiltin, Rules}
 use Rattle.report_rules.specs.Checks.{ReportKind}
 use Rattle.report_rules.specs.Reports.{reports}

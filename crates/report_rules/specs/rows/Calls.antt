@@ -1,6 +1,6 @@
 -- Worked rows on calls, operators and writes. Expressions are numbered as they are written here.
-use Rattle.std.specs.Prelude.{ℕ, List, [], ◌∷◌, ◌++◌, Option, Some, None, codes}
-use Rattle.luau_tree.specs.declared.names.BinOp.TheVariants.{Less, Add, And}
+use Rattle.std.specs.Prelude.{ℕ, List, [], ◌∷◌, ◌++◌, codes}
+use Rattle.luau_tree.specs.declared.names.BinOp.TheVariants.{Less, Add}
 use Rattle.luau_tree.specs.declared.names.UnOp.TheVariants.{Minus, Length}
 use Rattle.luau_tree.specs.Tree.{ExprKind, Expr, NilExpr, Compound, NameExpr, Index, Binary, TableExpr, Field, CallStat, StatKind, Assign, NumFor, GenFor, Paren, Unary, Method, no_stats, no_expr, no_items}
 use Rattle.luau_run.specs.ReadModule.{Use, UseLocal, UseBuiltin, UseGlobal}

@@ -1,10 +1,10 @@
 -- Worked rows on parameters, branches and loops. In each of them the parameter is the local 1, and `x` its name; the expressions
 -- of `math.abs(x)` have the numbers 0 to 2, those of `string.lower(x)` 3 to 5.
-use Rattle.std.specs.Prelude.{ℕ, List, [], ◌∷◌, ◌++◌, Option, Some, None, codes}
+use Rattle.std.specs.Prelude.{ℕ, List, [], ◌∷◌, codes}
 use Rattle.luau_tree.specs.declared.names.BinOp.TheVariants.{Equal, And, Add}
-use Rattle.luau_tree.specs.Tree.{Expr, StrExpr, NameExpr, Index, Binary, Field, StatKind, CallStat, While, Repeat, If, NumFor, LocalFunction, Break, Compound, no_arms, more_arms, no_block, a_block, no_expr, no_binds, the_bind, no_type}
+use Rattle.luau_tree.specs.Tree.{Expr, StrExpr, NameExpr, Index, Binary, Field, StatKind, CallStat, While, Repeat, If, NumFor, LocalFunction, Break, Compound, no_arms, more_arms, a_block, no_expr, no_binds}
 use Rattle.luau_run.specs.ReadModule.{Use, UseLocal, UseBuiltin, UseGlobal}
-use Rattle.luau_run.specs.runs.Builders.{e, num, str, name, table, declared, block_of, body_of, locals, assign, returning, if_then}
+use Rattle.luau_run.specs.runs.Builders.{e, num, str, name, table, declared, block_of, body_of, locals, assign, returning}
 use Rattle.type_arena.specs.Term.{Term}
 use Rattle.type_normal.specs.Kinds.{unknown}
 use Rattle.report_rules.specs.Rules.{Rules}

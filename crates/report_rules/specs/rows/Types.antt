@@ -1,9 +1,9 @@
 -- Worked rows on types: what conditions say of a local, contexts, and what modules give.
-use Rattle.std.specs.Prelude.{ℕ, Bool, List, [], ◌∷◌, ◌++◌, Some, None, codes}
+use Rattle.std.specs.Prelude.{ℕ, List, [], ◌∷◌, ◌++◌, codes}
 use Rattle.luau_tree.specs.declared.names.BinOp.{BinOp}
-use Rattle.luau_tree.specs.Tree.{Expr, ExprKind, StrExpr, NameExpr, Index, Binary, Field, CallStat, StatKind, If, no_arms, more_arms, no_block}
-use Rattle.luau_run.specs.ReadModule.{Use, UseLocal, UseBuiltin, UseGlobal}
-use Rattle.luau_run.specs.runs.Builders.{e, num, str, name, table, call_of, block_of, locals, assign, returning}
+use Rattle.luau_tree.specs.Tree.{Expr, ExprKind, StrExpr, Index, Binary, Field, StatKind, If, no_arms, more_arms, no_block}
+use Rattle.luau_run.specs.ReadModule.{UseLocal, UseBuiltin, UseGlobal}
+use Rattle.luau_run.specs.runs.Builders.{e, num, str, name, table, call_of, block_of, locals, returning}
 use Rattle.type_arena.specs.Term.{Term}
 use Rattle.report_rules.specs.Rules.{Rules}
 use Rattle.report_rules.specs.Context.{Context, only_for}
