@@ -18,7 +18,7 @@ abbrev pub holding : Rules → Phrases → Phrases
 holding rules inner = record {
   exp = λ p q e. (a : Place) × IsExpression rules inner (raised p) a e × (q ≡ at_level p.level a);
   typ = λ begun p q t. (a : Place) × IsType rules inner begun (raised p) a t × (q ≡ at_level p.level a);
-  block = λ p q b. (a : Place) × IsBlock rules inner (raised p) a b × (q ≡ at_level p.level a)
+  block = λ p q b. (a : Place) × IsBlock rules inner (raised p) a b × (q ≡ at_level p.level a);
 }
 
 -- the phrases that hold one another fewer than so many deep
@@ -51,5 +51,5 @@ max_level = 200
 abbrev pub strict : List ℕ → Rules
 strict text = record {
   may_stand = λ t at. nat_le at max_level;
-  may_call = λ last t. on_one_line text last t.span.start
+  may_call = λ last t. on_one_line text last t.span.start;
 }

@@ -84,10 +84,10 @@ module _ (set : Setting) (inner : Readers) where
   varparam = do
     read.expect set s.Dots
     (λ p. if sees s.Colon p then (do
-        read.expect set s.Colon
-        t ← var_type
-        pure (tree.a_type t)) p
-      else Ok (tree.no_type, p))
+      read.expect set s.Colon
+      t ← var_type
+      pure (tree.a_type t)) p
+        else Ok (tree.no_type, p))
 
   unfoldable pub parameter : Parameters → Parser Parameters
   parameter given = λ p.
@@ -160,14 +160,19 @@ module _ (set : Setting) (inner : Readers) where
         value ← expression
         pure (tree.Plain value)) p
 
+  unfoldable pub fields : Parser Items
+  fields = do
+    found ← types.braced set item
+    pure (items found.items)
+
   -- whose inside stands at this level
   unfoldable pub table : ℕ → Parser Items
   table inside = do
     read.expect set s.LeftBrace
     set_level inside
-    found ← types.braced set item
+    found ← fields
     read.expect set s.RightBrace
-    pure (items found.items)
+    pure found
 
   unfoldable pub in_parens : Parser Exprs
   in_parens = λ p.
@@ -260,7 +265,7 @@ module _ (set : Setting) (inner : Readers) where
   unfoldable pub call : ℕ → Expr → Parser Expr
   call from callee = do
     outer ← level
-    args ← arguments (outer + 1)
+    args ← arguments (read.deeper (set.limit) outer)
     span ← span_from from
     pure (tree.the_expr 0 span (tree.Call callee args))
 
@@ -316,10 +321,19 @@ module _ (set : Setting) (inner : Readers) where
   unfoldable pub part : Interpolated → Parser Interpolated
   part given = expression >>= part_end given
 
+  -- behind the first text
+  unfoldable pub parts : List ℕ → Parser Interpolated
+  parts text =
+      read.repeat set (λ given p. given.open_ended) part (record {
+        texts = text ∷ [];
+        parts = [];
+        open_ended = true;
+      })
+
   unfoldable pub interpolation : ℕ → Parser Expr
   interpolation from = do
     text ← read.string set s.Begin
-    found ← read.repeat set (λ given p. given.open_ended) part (record { texts = text ∷ []; parts = []; open_ended = true })
+    found ← parts text
     span ← span_from from
     pure (tree.the_expr 0 span (tree.Interp found.texts (exprs found.parts)))
 

@@ -17,7 +17,7 @@ module _ (set : Setting) where
   too_deep = record {
     exp = λ p. Err (read.deep_refusal set p);
     typ = λ begun p. Err (read.deep_refusal set p);
-    block = λ p. if phrases.may_begin_block p then Err (read.deep_refusal set p) else Ok (no_stats, p)
+    block = λ p. if phrases.may_begin_block p then Err (read.deep_refusal set p) else Ok (no_stats, p);
   }
 
   -- the parsers of phrases that hold one another at most so many deep
@@ -26,7 +26,7 @@ module _ (set : Setting) where
   readers (suc deep) = record {
     exp = expression_inside set (readers deep);
     typ = type_inside set (readers deep);
-    block = block_inside set (readers deep)
+    block = block_inside set (readers deep);
   }
 
   unfoldable pub module_with : ℕ → Parser Block

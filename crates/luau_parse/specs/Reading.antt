@@ -61,6 +61,10 @@ level = λ p. Ok (p.level, p)
 abbrev pub set_level : ℕ → Parser (Unit {0})
 set_level at = λ p. Ok (tt, at_level at p)
 
+-- one level deeper, where anything may be opened
+unfoldable pub deeper : ℕ → ℕ → ℕ
+deeper limit at = if nat_le at limit then at + 1 else at
+
 module _ (set : Setting) where
   abbrev refusal_at : List Tok → ParseError
   refusal_at [] = UnexpectedEnd set.len

@@ -30,10 +30,15 @@ pub struct Grammar<'s, E, T, B> {
 impl<
     's,
     E: Fn(Global, &[u8], &mut Tokens<'_, '_>, usize) -> Result<Expr, ParseError>,
-    T: Fn(Global, &[u8], &mut Tokens<'_, '_>, usize, Option<Listed>) -> Result<TypeSyntax, ParseError>,
+    T: Fn(
+        Global,
+        &[u8],
+        &mut Tokens<'_, '_>,
+        usize,
+        Option<Listed>,
+    ) -> Result<TypeSyntax, ParseError>,
     B: Fn(Global, &[u8], &mut Tokens<'_, '_>, usize) -> Result<Block, ParseError>,
-> Grammar<'s, E, T, B>
-{
+> Grammar<'s, E, T, B> {
     /// An expression.
     #[tactic(auto, unfolding(crate::specs::ReadPhrases::expression, crate::specs::Reading::phrase))]
     pub fn expression(&self, tokens: &mut Tokens<'_, '_>) -> Result<Expr, ParseError>

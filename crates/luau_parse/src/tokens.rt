@@ -2,7 +2,9 @@ ghost use Rattle.std.specs.Prelude.{◌≡◌, ◌≤◌, ◌<◌, ◌==◌, len
 ghost use Rattle.std.specs.List.{list_any};
 ghost use Rattle.luau_lex.specs.Tokens.{seen_token};
 ghost use Rattle.luau_parse.specs.Places as places;
-ghost use Rattle.luau_parse.specs.Modules.{on_one_line, before};
+ghost use Rattle.luau_parse.specs.Modules.{on_one_line, before, max_level};
+ghost use Rattle.luau_parse.specs.Expressions as expressions;
+ghost use Rattle.luau_parse.specs.ReadTypes as types;
 ghost use Rattle.luau_parse.specs.Reading as reading;
 ghost use Rattle.luau_parse.specs.Reading.{strictly, ◌>>◌, pure};
 ghost use Rattle.luau_parse.specs.Outcomes.{Reads, place_of, itself};
@@ -22,6 +24,14 @@ pub struct Tokens<'t, 's> {
     ahead: &'t [Token<'s>],
     last: u32,
     level: u32,
+}
+
+/// One level deeper, where anything may be opened.
+#[tactic(auto, unfolding(crate::specs::Reading::deeper))]
+pub fn deeper(level: u32) -> u32
+    ensures { result ≡ reading.deeper max_level level }
+{
+    if level > MAX_LEVEL { level } else { level + 1 }
 }
 
 /// What is behind the first bytes of a text, so many.
@@ -108,6 +118,18 @@ impl<'t, 's> Tokens<'t, 's> {
             None => &[],
             Some(token) => token.text,
         }
+    }
+
+    /// Whether a prefix goes on: `.`, `[`, `:` or arguments.
+    pub fn sees_suffix(&self) -> bool
+        ensures { result ≡ expressions.begins_suffix (place_of self.now) }
+    {
+        self.sees(Symbol::Dot)
+            || self.sees(Symbol::LeftBracket)
+            || self.sees(Symbol::Colon)
+            || self.sees(Symbol::LeftParen)
+            || self.sees(Symbol::LeftBrace)
+            || self.sees(Symbol::Text)
     }
 
     /// Whether the next token is this name, which is a word where the grammar has it.
@@ -227,6 +249,19 @@ impl<'t, 's> Tokens<'t, 's> {
         ensures { Reads itself (reading.eat (strictly text.now) symbol (place_of self.old)) result self.new }
     {
         if !self.sees(symbol) {
+            return Ok(false);
+        }
+        let _token = self.next(text)?;
+        Ok(true)
+    }
+
+    /// Takes a `,` or a `;`, and whether one stands there.
+    #[tactic(auto, unfolding(crate::specs::ReadTypes::separator))]
+    pub fn separator(&mut self, text: &[u8]) -> Result<bool, ParseError>
+        requires { length text.now ≤ MAX_TEXT }
+        ensures { Reads itself (types.separator (strictly text.now) (place_of self.old)) result self.new }
+    {
+        if !self.sees(Symbol::Comma) && !self.sees(Symbol::Semicolon) {
             return Ok(false);
         }
         let _token = self.next(text)?;
