@@ -65,16 +65,15 @@ impl<
         &self,
         tokens: &mut Tokens<'_, '_>,
         may: bool,
-        found: Items<Gen>,
+        mut found: Items<Gen>,
     ) -> Result<Items<Gen>, ParseError>
         requires { Nests self.now.text.now self.now.depth (E.pre self.now.exp) (E.post self.now.exp) (T.pre self.now.typ) (T.post self.now.typ) (B.pre self.now.block) (B.post self.now.block) }
         ensures { Reads (map view_gen) (reading.another (strictly self.now.text.now) (written.generic (strictly self.now.text.now) (readers (strictly self.now.text.now) self.now.depth) may) (map view_gen found) (place_of tokens.old)) result tokens.new }
     {
         let _comma = tokens.expect(self.text, Symbol::Comma)?;
         let g = self.generic(tokens, may)?;
-        let mut all = found;
-        all.push(g)?;
-        Ok(all)
+        found.push(g)?;
+        Ok(found)
     }
 
     #[tactic(auto, unfolding(crate::specs::Reading::separated_from))]

@@ -1,6 +1,7 @@
 //! Table types and array types.
 ghost use Rattle.std.specs.Prelude.{◌≡◌};
 ghost use Rattle.luau_tree.specs.View.{view_prop, view_prop_key, view_props, view_type};
+ghost use Rattle.luau_parse.specs.Reading as reading;
 ghost use Rattle.luau_parse.specs.SeenTypes.{seen_properties};
 ghost use Rattle.luau_parse.specs.Nests.{Nests};
 ghost use Rattle.luau_parse.specs.Outcomes.{Reads, place_of, itself};
@@ -122,15 +123,16 @@ impl<
         Ok(Properties { items, open_ended })
     }
 
-    #[tactic(auto, unfolding(crate::specs::ReadTypes::braced))]
-    fn properties(&self, tokens: &mut Tokens<'_, '_>) -> Result<Properties, ParseError>
+    #[tactic(auto)]
+    fn properties_from(
+        &self,
+        tokens: &mut Tokens<'_, '_>,
+        given: Properties,
+    ) -> Result<Properties, ParseError>
         requires { Nests self.now.text.now self.now.depth (E.pre self.now.exp) (E.post self.now.exp) (T.pre self.now.typ) (T.post self.now.typ) (B.pre self.now.block) (B.post self.now.block) }
-        ensures { Reads seen_properties (written.braced (strictly self.now.text.now) (written.property (strictly self.now.text.now) (readers (strictly self.now.text.now) self.now.depth)) (place_of tokens.old)) result tokens.new }
+        ensures { Reads seen_properties (reading.repeat (strictly self.now.text.now) written.goes_braced (written.one_braced (strictly self.now.text.now) (written.property (strictly self.now.text.now) (readers (strictly self.now.text.now) self.now.depth))) (seen_properties given) (place_of tokens.old)) result tokens.new }
     {
-        let mut found = Properties {
-            items: Items::new(self.alloc),
-            open_ended: true,
-        };
+        let mut found = given;
         let mut turns = tokens.left();
         while goes_on(&found, tokens) {
             if turns == 0 {
@@ -140,6 +142,18 @@ impl<
             found = self.another_property(tokens, found)?;
         }
         Ok(found)
+    }
+
+    #[tactic(auto, unfolding(crate::specs::ReadTypes::braced))]
+    fn properties(&self, tokens: &mut Tokens<'_, '_>) -> Result<Properties, ParseError>
+        requires { Nests self.now.text.now self.now.depth (E.pre self.now.exp) (E.post self.now.exp) (T.pre self.now.typ) (T.post self.now.typ) (B.pre self.now.block) (B.post self.now.block) }
+        ensures { Reads seen_properties (written.braced (strictly self.now.text.now) (written.property (strictly self.now.text.now) (readers (strictly self.now.text.now) self.now.depth)) (place_of tokens.old)) result tokens.new }
+    {
+        let none = Properties {
+            items: Items::new(self.alloc),
+            open_ended: true,
+        };
+        self.properties_from(tokens, none)
     }
 
     /// An array type, behind the `{` that begins at an offset.

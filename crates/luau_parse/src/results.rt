@@ -60,16 +60,15 @@ impl<
     fn another_result(
         &self,
         tokens: &mut Tokens<'_, '_>,
-        found: Items<TypeSyntax>,
+        mut found: Items<TypeSyntax>,
     ) -> Result<Items<TypeSyntax>, ParseError>
         requires { Nests self.now.text.now self.now.depth (E.pre self.now.exp) (E.post self.now.exp) (T.pre self.now.typ) (T.post self.now.typ) (B.pre self.now.block) (B.post self.now.block) }
         ensures { Reads (map view_type) (reading.another (strictly self.now.text.now) (written.result (strictly self.now.text.now) (readers (strictly self.now.text.now) self.now.depth)) (map view_type found) (place_of tokens.old)) result tokens.new }
     {
         let _comma = tokens.expect(self.text, Symbol::Comma)?;
         let t = self.type_result(tokens)?;
-        let mut all = found;
-        all.push(t)?;
-        Ok(all)
+        found.push(t)?;
+        Ok(found)
     }
 
     #[tactic(auto, unfolding(crate::specs::Reading::separated_from))]

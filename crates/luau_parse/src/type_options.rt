@@ -102,16 +102,15 @@ impl<
         &self,
         tokens: &mut Tokens<'_, '_>,
         sign: Symbol,
-        found: Items<TypeSyntax>,
+        mut found: Items<TypeSyntax>,
     ) -> Result<Items<TypeSyntax>, ParseError>
         requires { Nests self.now.text.now self.now.depth (E.pre self.now.exp) (E.post self.now.exp) (T.pre self.now.typ) (T.post self.now.typ) (B.pre self.now.block) (B.post self.now.block) }
         ensures { Reads (map view_type) (written.another_option (strictly self.now.text.now) (readers (strictly self.now.text.now) self.now.depth) sign (map view_type found) (place_of tokens.old)) result tokens.new }
     {
         let _sign = tokens.expect(self.text, sign)?;
         let t = self.type_option(tokens, None)?;
-        let mut all = found;
-        all.push(t)?;
-        Ok(all)
+        found.push(t)?;
+        Ok(found)
     }
 
     #[tactic(auto, unfolding(crate::specs::ReadTypes::options_from))]
