@@ -12,10 +12,10 @@ use Rattle.luau_parse.proofs.Repeats.{Remains}
 use Rattle.luau_parse.proofs.grammar.Grammar.generics_from.Given as goal
 
 -- what is left to read gives the whole
-abbrev pub invariant-loop-tokens : goal.invariant-loop-tokens
-invariant-loop-tokens g l =
+abbrev pub invariant-loop-found : goal.invariant-loop-found
+invariant-loop-found g l =
     Remains (List Gen) (List Gen) (strictly l.self.text.now) (λ _ p. sees s.Comma p) (another (strictly l.self.text.now) (written.generic (strictly l.self.text.now) (readers (strictly l.self.text.now) l.self.depth) l.may)) (λ x. pure x) l.turns (map view_gen l.found) (place_of l.tokens)
     (separated_from (strictly l.self.text.now) (written.generic (strictly l.self.text.now) (readers (strictly l.self.text.now) l.self.depth) l.may) (map view_gen l.fn.given) (place_of l.fn.tokens))
 
-abbrev pub decreases-loop-tokens : goal.decreases-loop-tokens
-decreases-loop-tokens g l = l.turns
+abbrev pub decreases-loop-found : goal.decreases-loop-found
+decreases-loop-found g l = l.turns
