@@ -11,6 +11,7 @@ pub mod Reading
 pub mod Outcomes
 pub mod ReadPhrases
 pub mod ReadTypes
+pub mod SeenTypes
 pub mod ReadExpressions
 pub mod Seen
 pub mod ReadStatements

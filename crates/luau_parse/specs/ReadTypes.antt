@@ -26,6 +26,19 @@ pub record Braced (A : Type 0) : Type 0 where
   pub items : List A
   pub open_ended : Bool
 
+-- another item may follow
+abbrev pub goes_braced : {A : Type 0} → Braced A → Place → Bool
+goes_braced found p = found.open_ended && not (sees s.RightBrace p)
+
+abbrev pub goes_members : Members → Place → Bool
+goes_members found p = not found.tailed && sees s.Comma p
+
+abbrev pub goes_marks : TypeSyntax → Place → Bool
+goes_marks t p = sees s.Question p
+
+abbrev pub goes_options : Symbol → List TypeSyntax → Place → Bool
+goes_options sign found p = sees sign p
+
 module _ (set : Setting) where
   -- `(',' | ';')`, and whether one stands there
   unfoldable pub separator : Parser Bool
@@ -36,9 +49,6 @@ module _ (set : Setting) where
     x ← item
     more ← separator
     pure (record { items = found.items ++ x ∷ []; open_ended = more })
-
-  abbrev pub goes_braced : {A : Type 0} → Braced A → Place → Bool
-  goes_braced found p = found.open_ended && not (sees s.RightBrace p)
 
   -- `[x {(',' | ';') x} [',' | ';']]`, up to a `}`
   unfoldable pub braced : {A : Type 0} → Parser A → Parser (Braced A)
@@ -83,16 +93,17 @@ module _ (set : Setting) (inner : Readers) where
         t ← typ None
         pure (record { types = found.types ++ t ∷ []; named = found.named || here; tailed = false })) p
 
-  abbrev pub another_member : Members → Parser Members
+  unfoldable pub another_member : Members → Parser Members
   another_member found = read.expect set s.Comma >> member found
 
-  abbrev pub goes_members : Members → Place → Bool
-  goes_members found p = not found.tailed && sees s.Comma p
+  -- behind some of them
+  unfoldable pub members_from : Members → Parser Members
+  members_from found = read.repeat set goes_members another_member found
 
   unfoldable pub members : Parser Members
   members = do
     first ← member (record { types = []; named = false; tailed = false })
-    read.repeat set goes_members another_member first
+    members_from first
 
   unfoldable pub maybe_members : Parser Members
   maybe_members = λ p.
@@ -149,14 +160,16 @@ module _ (set : Setting) (inner : Readers) where
     given ← default may
     pure (tree.the_gen name span pack given)
 
+  -- behind the `<`
+  unfoldable pub generics_behind : Bool → Parser Gens
+  generics_behind may = do
+    gs ← read.separated set (generic may)
+    read.expect set s.Greater
+    pure (gens gs)
+
   unfoldable pub generics : Bool → Parser Gens
   generics may = λ p.
-      if sees s.Less p then (do
-        read.expect set s.Less
-        gs ← read.separated set (generic may)
-        read.expect set s.Greater
-        pure (gens gs)) p
-      else Ok (tree.no_gens, p)
+      if sees s.Less p then (read.expect set s.Less >> generics_behind may) p else Ok (tree.no_gens, p)
 
   unfoldable pub access : Parser Access
   access = λ p.
@@ -164,18 +177,22 @@ module _ (set : Setting) (inner : Readers) where
       else if sees_access (codes "write") p then (read.next set >> pure Write) p
       else Ok (Both, p)
 
+  unfoldable pub indexer : Parser PropKey
+  indexer = do
+    read.expect set s.LeftBracket
+    t ← typ None
+    read.expect set s.RightBracket
+    read.expect set s.Colon
+    pure (tree.Indexer t)
+
+  unfoldable pub property_name : Parser PropKey
+  property_name = do
+    name ← read.name set
+    read.expect set s.Colon
+    pure (tree.NameKey name)
+
   unfoldable pub key : Parser PropKey
-  key = λ p.
-      if sees s.LeftBracket p then (do
-        read.expect set s.LeftBracket
-        t ← typ None
-        read.expect set s.RightBracket
-        read.expect set s.Colon
-        pure (tree.Indexer t)) p
-      else (do
-        name ← read.name set
-        read.expect set s.Colon
-        pure (tree.NameKey name)) p
+  key = λ p. if sees s.LeftBracket p then indexer p else property_name p
 
   unfoldable pub property : Parser Prop
   property = do
@@ -205,8 +222,8 @@ module _ (set : Setting) (inner : Readers) where
     read.expect set s.LeftBrace
     (λ p. if sees s.RightBrace p || begins_property p then table from p else array from p)
 
-  unfoldable pub typeof : Parser TypeSyntax
-  typeof = do
+  unfoldable pub typeof_form : Parser TypeSyntax
+  typeof_form = do
     from ← start
     read.expect set s.Name
     read.expect set s.LeftParen
@@ -215,19 +232,25 @@ module _ (set : Setting) (inner : Readers) where
     span ← span_from from
     pure (tree.the_type span (tree.Typeof e))
 
+  -- `'.' NAME ['<' [targs] '>']`, behind the first name
+  unfoldable pub dotted : ℕ → List ℕ → Parser TypeSyntax
+  dotted from first = do
+    read.expect set s.Dot
+    second ← read.name set
+    args ← type_arguments
+    span ← span_from from
+    pure (tree.the_type span (tree.Named (Some first) second args))
+
+  -- `['<' [targs] '>']`, behind the name
+  unfoldable pub undotted : ℕ → List ℕ → Parser TypeSyntax
+  undotted from name = do
+    args ← type_arguments
+    span ← span_from from
+    pure (tree.the_type span (tree.Named None name args))
+
   -- `NAME ['.' NAME] ['<' [targs] '>']`, behind the first name
   unfoldable pub named_behind : ℕ → List ℕ → Parser TypeSyntax
-  named_behind from first = λ p.
-      if sees s.Dot p then (do
-        read.expect set s.Dot
-        second ← read.name set
-        args ← type_arguments
-        span ← span_from from
-        pure (tree.the_type span (tree.Named (Some first) second args))) p
-      else (do
-        args ← type_arguments
-        span ← span_from from
-        pure (tree.the_type span (tree.Named None first args))) p
+  named_behind from first = λ p. if sees s.Dot p then dotted from first p else undotted from first p
 
   unfoldable pub named : Parser TypeSyntax
   named = do
@@ -259,13 +282,16 @@ module _ (set : Setting) (inner : Readers) where
     span ← span_from from
     pure (tree.the_type span (tree.StrType value))
 
+  unfoldable pub name_form : Parser TypeSyntax
+  name_form = λ p. if sees_typeof p then typeof_form p else named p
+
   -- a type that does not begin with `(`, by its first symbol
   abbrev pub form_by : Symbol → Parser TypeSyntax
   form_by s.Nil = word tree.NilType
   form_by s.True = word (tree.BoolType true)
   form_by s.False = word (tree.BoolType false)
   form_by s.Text = literal
-  form_by s.Name = λ p. if sees_typeof p then typeof p else named p
+  form_by s.Name = name_form
   form_by s.LeftBrace = table_or_array
   form_by s.Less = generic_function
   form_by _ = read.refuse set
@@ -277,15 +303,17 @@ module _ (set : Setting) (inner : Readers) where
   only_in_parens None = read.refuse set
   only_in_parens (Some t) = pure t
 
+  -- `'->' result`, behind a list in parentheses
+  unfoldable pub function_behind : Listed → Parser TypeSyntax
+  function_behind l = do
+    read.expect set s.Arrow
+    r ← result
+    span ← span_from (l.start)
+    pure (tree.the_type span (tree.Func tree.no_gens (types l.types) r))
+
   -- behind a list in parentheses
   unfoldable pub listed_type : Listed → Parser TypeSyntax
-  listed_type l = λ p.
-      if sees s.Arrow p then (do
-        read.expect set s.Arrow
-        r ← result
-        span ← span_from (l.start)
-        pure (tree.the_type span (tree.Func tree.no_gens (types l.types) r))) p
-      else only_in_parens (in_parens l) p
+  listed_type l = λ p. if sees s.Arrow p then function_behind l p else only_in_parens (in_parens l) p
 
   abbrev pub basic_by : Option Listed → Parser TypeSyntax
   basic_by (Some l) = listed_type l
@@ -301,10 +329,13 @@ module _ (set : Setting) (inner : Readers) where
     span ← span_from from
     pure (tree.the_type span (tree.Optional t))
 
+  unfoldable pub all_marks : ℕ → TypeSyntax → Parser TypeSyntax
+  all_marks from t = read.repeat set goes_marks (mark from) t
+
   unfoldable pub marks : ℕ → TypeSyntax → Parser TypeSyntax
   marks from t = do
     outer ← level
-    u ← read.repeat set (λ _ p. sees s.Question p) (mark from) t
+    u ← all_marks from t
     set_level outer
     pure u
 
@@ -320,20 +351,30 @@ module _ (set : Setting) (inner : Readers) where
     t ← option None
     pure (found ++ t ∷ [])
 
+  -- options, each behind this sign, behind some of them
+  unfoldable pub options_from : Symbol → List TypeSyntax → Parser (List TypeSyntax)
+  options_from sign found = read.repeat set (goes_options sign) (another_option sign) found
+
   unfoldable pub options : Symbol → TypeSyntax → Parser (List TypeSyntax)
-  options sign first = read.repeat set (λ _ p. sees sign p) (another_option sign) (first ∷ [])
+  options sign first = options_from sign (first ∷ [])
+
+  unfoldable pub union_behind : ℕ → TypeSyntax → Parser TypeSyntax
+  union_behind from first = do
+    ts ← options s.Pipe first
+    span ← span_from from
+    pure (tree.the_type span (tree.Union (types ts)))
+
+  unfoldable pub meet_behind : ℕ → TypeSyntax → Parser TypeSyntax
+  meet_behind from first = do
+    ts ← options s.Ampersand first
+    span ← span_from from
+    pure (tree.the_type span (tree.Meet (types ts)))
 
   -- behind the first option of a type that begins at an offset
   unfoldable pub joined : ℕ → TypeSyntax → Parser TypeSyntax
   joined from first = λ p.
-      if sees s.Pipe p then (do
-        ts ← options s.Pipe first
-        span ← span_from from
-        pure (tree.the_type span (tree.Union (types ts)))) p
-      else if sees s.Ampersand p then (do
-        ts ← options s.Ampersand first
-        span ← span_from from
-        pure (tree.the_type span (tree.Meet (types ts)))) p
+      if sees s.Pipe p then union_behind from first p
+      else if sees s.Ampersand p then meet_behind from first p
       else Ok (first, p)
 
   abbrev pub bar_by : Option Listed → Parser (Unit {0})
