@@ -14,5 +14,6 @@ pub mod ReadTypes
 pub mod ReadExpressions
 pub mod Seen
 pub mod ReadStatements
+pub mod SeenStatements
 pub mod ReadModules
 pub mod Nests
