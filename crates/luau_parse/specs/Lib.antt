@@ -15,5 +15,6 @@ pub mod SeenTypes
 pub mod ReadExpressions
 pub mod Seen
 pub mod ReadStatements
+pub mod SeenStatements
 pub mod ReadModules
 pub mod Nests
