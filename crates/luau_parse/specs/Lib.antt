@@ -18,3 +18,4 @@ pub mod ReadStatements
 pub mod SeenStatements
 pub mod ReadModules
 pub mod Nests
+pub mod Parsed

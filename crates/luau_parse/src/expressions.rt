@@ -1,13 +1,13 @@
 //! Expressions without operators, by their first symbol.
 ghost use Rattle.std.specs.Prelude.{map};
 ghost use Rattle.luau_tree.specs.Tree as tree;
+ghost use Rattle.luau_parse.specs.ReadExpressions as values;
 ghost use Rattle.luau_tree.specs.View.{view_choice, view_choices, view_expr};
 ghost use Rattle.luau_parse.specs.Seen.{seen_interpolated};
 ghost use Rattle.luau_parse.specs.Nests.{Nests};
 ghost use Rattle.luau_parse.specs.Outcomes.{Reads, place_of};
 ghost use Rattle.luau_parse.specs.Reading.{strictly};
 ghost use Rattle.luau_parse.specs.ReadModules.{readers};
-ghost use Rattle.luau_parse.specs.ReadExpressions as values;
 
 use crate::error::ParseError;
 use crate::grammar::Grammar;
@@ -37,7 +37,7 @@ impl<
     B: Fn(Global, &[u8], &mut Tokens<'_, '_>, usize) -> Result<Block, ParseError>,
 > Grammar<'s, E, T, B> {
     #[tactic(auto, unfolding(crate::specs::ReadExpressions::choice))]
-    fn choice(&self, tokens: &mut Tokens<'_, '_>, word: Symbol) -> Result<Choice, ParseError>
+    pub fn choice(&self, tokens: &mut Tokens<'_, '_>, word: Symbol) -> Result<Choice, ParseError>
         requires { Nests self.now.text.now self.now.depth (E.pre self.now.exp) (E.post self.now.exp) (T.pre self.now.typ) (T.post self.now.typ) (B.pre self.now.block) (B.post self.now.block) }
         ensures { Reads view_choice (values.choice (strictly self.now.text.now) (readers (strictly self.now.text.now) self.now.depth) word (place_of tokens.old)) result tokens.new }
     {
@@ -49,7 +49,7 @@ impl<
     }
 
     #[tactic(auto, unfolding(crate::specs::ReadExpressions::another_choice))]
-    fn another_choice(
+    pub fn another_choice(
         &self,
         tokens: &mut Tokens<'_, '_>,
         mut found: Items<Choice>,
@@ -63,7 +63,7 @@ impl<
     }
 
     #[tactic(auto, using(crate::proofs::Lists::choices_seen), unfolding(crate::specs::ReadExpressions::all_choices))]
-    fn all_choices(&self, tokens: &mut Tokens<'_, '_>) -> Result<Items<Choice>, ParseError>
+    pub fn all_choices(&self, tokens: &mut Tokens<'_, '_>) -> Result<Items<Choice>, ParseError>
         requires { Nests self.now.text.now self.now.depth (E.pre self.now.exp) (E.post self.now.exp) (T.pre self.now.typ) (T.post self.now.typ) (B.pre self.now.block) (B.post self.now.block) }
         ensures { Reads view_choices (values.all_choices (strictly self.now.text.now) (readers (strictly self.now.text.now) self.now.depth) (place_of tokens.old)) result tokens.new }
     {
@@ -81,7 +81,7 @@ impl<
     }
 
     #[tactic(auto, unfolding(crate::specs::ReadExpressions::if_else))]
-    fn if_else(&self, tokens: &mut Tokens<'_, '_>, from: u32) -> Result<Expr, ParseError>
+    pub fn if_else(&self, tokens: &mut Tokens<'_, '_>, from: u32) -> Result<Expr, ParseError>
         requires { Nests self.now.text.now self.now.depth (E.pre self.now.exp) (E.post self.now.exp) (T.pre self.now.typ) (T.post self.now.typ) (B.pre self.now.block) (B.post self.now.block) }
         ensures { Reads view_expr (values.if_else (strictly self.now.text.now) (readers (strictly self.now.text.now) self.now.depth) from (place_of tokens.old)) result tokens.new }
     {
@@ -93,7 +93,7 @@ impl<
     }
 
     #[tactic(auto, unfolding(crate::specs::ReadExpressions::part, crate::specs::ReadExpressions::part_end))]
-    fn part(
+    pub fn part(
         &self,
         tokens: &mut Tokens<'_, '_>,
         given: Interpolated,
@@ -125,7 +125,11 @@ impl<
 
     /// The parts of an interpolated string, behind its first text.
     #[tactic(auto, unfolding(crate::specs::ReadExpressions::parts))]
-    fn parts(&self, tokens: &mut Tokens<'_, '_>, text: Bytes) -> Result<Interpolated, ParseError>
+    pub fn parts(
+        &self,
+        tokens: &mut Tokens<'_, '_>,
+        text: Bytes,
+    ) -> Result<Interpolated, ParseError>
         requires { Nests self.now.text.now self.now.depth (E.pre self.now.exp) (E.post self.now.exp) (T.pre self.now.typ) (T.post self.now.typ) (B.pre self.now.block) (B.post self.now.block) }
         ensures { Reads seen_interpolated (values.parts (strictly self.now.text.now) (readers (strictly self.now.text.now) self.now.depth) text (place_of tokens.old)) result tokens.new }
     {
@@ -142,7 +146,7 @@ impl<
     }
 
     #[tactic(auto, unfolding(crate::specs::ReadExpressions::interpolation))]
-    fn interpolation(&self, tokens: &mut Tokens<'_, '_>, from: u32) -> Result<Expr, ParseError>
+    pub fn interpolation(&self, tokens: &mut Tokens<'_, '_>, from: u32) -> Result<Expr, ParseError>
         requires { Nests self.now.text.now self.now.depth (E.pre self.now.exp) (E.post self.now.exp) (T.pre self.now.typ) (T.post self.now.typ) (B.pre self.now.block) (B.post self.now.block) }
         ensures { Reads view_expr (values.interpolation (strictly self.now.text.now) (readers (strictly self.now.text.now) self.now.depth) from (place_of tokens.old)) result tokens.new }
     {
@@ -153,7 +157,7 @@ impl<
     }
 
     #[tactic(auto, unfolding(crate::specs::ReadExpressions::whole))]
-    fn whole(&self, tokens: &mut Tokens<'_, '_>, from: u32) -> Result<Expr, ParseError>
+    pub fn whole(&self, tokens: &mut Tokens<'_, '_>, from: u32) -> Result<Expr, ParseError>
         requires { Nests self.now.text.now self.now.depth (E.pre self.now.exp) (E.post self.now.exp) (T.pre self.now.typ) (T.post self.now.typ) (B.pre self.now.block) (B.post self.now.block) }
         ensures { Reads view_expr (values.whole (strictly self.now.text.now) (readers (strictly self.now.text.now) self.now.depth) from (place_of tokens.old)) result tokens.new }
     {
@@ -164,7 +168,7 @@ impl<
     }
 
     #[tactic(auto, unfolding(crate::specs::ReadExpressions::word))]
-    fn nil(&self, tokens: &mut Tokens<'_, '_>, from: u32) -> Result<Expr, ParseError>
+    pub fn nil(&self, tokens: &mut Tokens<'_, '_>, from: u32) -> Result<Expr, ParseError>
         requires { Nests self.now.text.now self.now.depth (E.pre self.now.exp) (E.post self.now.exp) (T.pre self.now.typ) (T.post self.now.typ) (B.pre self.now.block) (B.post self.now.block) }
         ensures { Reads view_expr (values.word (strictly self.now.text.now) (readers (strictly self.now.text.now) self.now.depth) from tree.NilExpr (place_of tokens.old)) result tokens.new }
     {
@@ -173,7 +177,7 @@ impl<
     }
 
     #[tactic(auto, unfolding(crate::specs::ReadExpressions::word))]
-    fn truth(&self, tokens: &mut Tokens<'_, '_>, from: u32) -> Result<Expr, ParseError>
+    pub fn truth(&self, tokens: &mut Tokens<'_, '_>, from: u32) -> Result<Expr, ParseError>
         requires { Nests self.now.text.now self.now.depth (E.pre self.now.exp) (E.post self.now.exp) (T.pre self.now.typ) (T.post self.now.typ) (B.pre self.now.block) (B.post self.now.block) }
         ensures { Reads view_expr (values.word (strictly self.now.text.now) (readers (strictly self.now.text.now) self.now.depth) from tree.TrueExpr (place_of tokens.old)) result tokens.new }
     {
@@ -182,7 +186,7 @@ impl<
     }
 
     #[tactic(auto, unfolding(crate::specs::ReadExpressions::word))]
-    fn falsehood(&self, tokens: &mut Tokens<'_, '_>, from: u32) -> Result<Expr, ParseError>
+    pub fn falsehood(&self, tokens: &mut Tokens<'_, '_>, from: u32) -> Result<Expr, ParseError>
         requires { Nests self.now.text.now self.now.depth (E.pre self.now.exp) (E.post self.now.exp) (T.pre self.now.typ) (T.post self.now.typ) (B.pre self.now.block) (B.post self.now.block) }
         ensures { Reads view_expr (values.word (strictly self.now.text.now) (readers (strictly self.now.text.now) self.now.depth) from tree.FalseExpr (place_of tokens.old)) result tokens.new }
     {
@@ -191,7 +195,7 @@ impl<
     }
 
     #[tactic(auto, unfolding(crate::specs::ReadExpressions::word))]
-    fn vararg(&self, tokens: &mut Tokens<'_, '_>, from: u32) -> Result<Expr, ParseError>
+    pub fn vararg(&self, tokens: &mut Tokens<'_, '_>, from: u32) -> Result<Expr, ParseError>
         requires { Nests self.now.text.now self.now.depth (E.pre self.now.exp) (E.post self.now.exp) (T.pre self.now.typ) (T.post self.now.typ) (B.pre self.now.block) (B.post self.now.block) }
         ensures { Reads view_expr (values.word (strictly self.now.text.now) (readers (strictly self.now.text.now) self.now.depth) from tree.Vararg (place_of tokens.old)) result tokens.new }
     {
@@ -200,7 +204,7 @@ impl<
     }
 
     #[tactic(auto, unfolding(crate::specs::ReadExpressions::number))]
-    fn number(&self, tokens: &mut Tokens<'_, '_>, from: u32) -> Result<Expr, ParseError>
+    pub fn number(&self, tokens: &mut Tokens<'_, '_>, from: u32) -> Result<Expr, ParseError>
         requires { Nests self.now.text.now self.now.depth (E.pre self.now.exp) (E.post self.now.exp) (T.pre self.now.typ) (T.post self.now.typ) (B.pre self.now.block) (B.post self.now.block) }
         ensures { Reads view_expr (values.number (strictly self.now.text.now) (readers (strictly self.now.text.now) self.now.depth) from (place_of tokens.old)) result tokens.new }
     {
@@ -211,7 +215,7 @@ impl<
     }
 
     #[tactic(auto, unfolding(crate::specs::ReadExpressions::literal))]
-    fn literal(&self, tokens: &mut Tokens<'_, '_>, from: u32) -> Result<Expr, ParseError>
+    pub fn literal(&self, tokens: &mut Tokens<'_, '_>, from: u32) -> Result<Expr, ParseError>
         requires { Nests self.now.text.now self.now.depth (E.pre self.now.exp) (E.post self.now.exp) (T.pre self.now.typ) (T.post self.now.typ) (B.pre self.now.block) (B.post self.now.block) }
         ensures { Reads view_expr (values.literal (strictly self.now.text.now) (readers (strictly self.now.text.now) self.now.depth) from (place_of tokens.old)) result tokens.new }
     {
@@ -221,7 +225,7 @@ impl<
     }
 
     #[tactic(auto, unfolding(crate::specs::ReadExpressions::constructor))]
-    fn constructor(&self, tokens: &mut Tokens<'_, '_>, from: u32) -> Result<Expr, ParseError>
+    pub fn constructor(&self, tokens: &mut Tokens<'_, '_>, from: u32) -> Result<Expr, ParseError>
         requires { Nests self.now.text.now self.now.depth (E.pre self.now.exp) (E.post self.now.exp) (T.pre self.now.typ) (T.post self.now.typ) (B.pre self.now.block) (B.post self.now.block) }
         ensures { Reads view_expr (values.constructor (strictly self.now.text.now) (readers (strictly self.now.text.now) self.now.depth) from (place_of tokens.old)) result tokens.new }
     {
@@ -229,5 +233,83 @@ impl<
         let fields = self.table(tokens, inside)?;
         let span = tokens.span_from(from);
         Ok(table_expr(ExprId(0), span, fields))
+    }
+
+    #[tactic(auto, unfolding(crate::specs::ReadExpressions::function))]
+    pub fn function(&self, tokens: &mut Tokens<'_, '_>, from: u32) -> Result<Expr, ParseError>
+        requires { Nests self.now.text.now self.now.depth (E.pre self.now.exp) (E.post self.now.exp) (T.pre self.now.typ) (T.post self.now.typ) (B.pre self.now.block) (B.post self.now.block) }
+        ensures { Reads view_expr (values.function (strictly self.now.text.now) (readers (strictly self.now.text.now) self.now.depth) from (place_of tokens.old)) result tokens.new }
+    {
+        self.attributes(tokens)?;
+        let _word = tokens.expect(self.text, Symbol::Function)?;
+        let body = self.body(tokens, None)?;
+        let span = tokens.span_from(from);
+        Ok(function_expr(self.alloc, ExprId(0), span, body)?)
+    }
+
+    /// An expression that is no prefix, by its first symbol.
+    #[tactic(auto, unfolding(crate::specs::ReadExpressions::form))]
+    pub fn expression_form(&self, tokens: &mut Tokens<'_, '_>) -> Result<Expr, ParseError>
+        requires { Nests self.now.text.now self.now.depth (E.pre self.now.exp) (E.post self.now.exp) (T.pre self.now.typ) (T.post self.now.typ) (B.pre self.now.block) (B.post self.now.block) }
+        ensures { Reads view_expr (values.form (strictly self.now.text.now) (readers (strictly self.now.text.now) self.now.depth) (place_of tokens.old)) result tokens.new }
+    {
+        let from = tokens.start();
+        match tokens.symbol() {
+            Symbol::Nil => self.nil(tokens, from),
+            Symbol::True => self.truth(tokens, from),
+            Symbol::False => self.falsehood(tokens, from),
+            Symbol::Dots => self.vararg(tokens, from),
+            Symbol::Number => self.number(tokens, from),
+            Symbol::Text => self.literal(tokens, from),
+            Symbol::LeftBrace => self.constructor(tokens, from),
+            Symbol::Function => self.function(tokens, from),
+            Symbol::AtSign => self.function(tokens, from),
+            Symbol::If => self.if_else(tokens, from),
+            Symbol::Whole => self.whole(tokens, from),
+            Symbol::Begin => self.interpolation(tokens, from),
+            _ => Err(tokens.refusal(self.text)),
+        }
+    }
+
+    #[tactic(auto, unfolding(crate::specs::ReadExpressions::simple))]
+    pub fn simple(&self, tokens: &mut Tokens<'_, '_>) -> Result<Expr, ParseError>
+        requires { Nests self.now.text.now self.now.depth (E.pre self.now.exp) (E.post self.now.exp) (T.pre self.now.typ) (T.post self.now.typ) (B.pre self.now.block) (B.post self.now.block) }
+        ensures { Reads view_expr (values.simple (strictly self.now.text.now) (readers (strictly self.now.text.now) self.now.depth) (place_of tokens.old)) result tokens.new }
+    {
+        if tokens.sees(Symbol::Name) || tokens.sees(Symbol::LeftParen) {
+            self.prefix(tokens)
+        } else {
+            self.expression_form(tokens)
+        }
+    }
+
+    #[tactic(auto, unfolding(crate::specs::ReadExpressions::asserted))]
+    pub fn asserted(
+        &self,
+        tokens: &mut Tokens<'_, '_>,
+        from: u32,
+        e: Expr,
+    ) -> Result<Expr, ParseError>
+        requires { Nests self.now.text.now self.now.depth (E.pre self.now.exp) (E.post self.now.exp) (T.pre self.now.typ) (T.post self.now.typ) (B.pre self.now.block) (B.post self.now.block) }
+        ensures { Reads view_expr (values.asserted (strictly self.now.text.now) (readers (strictly self.now.text.now) self.now.depth) from (view_expr e) (place_of tokens.old)) result tokens.new }
+    {
+        if !tokens.sees(Symbol::DoubleColon) {
+            return Ok(e);
+        }
+        let _colons = tokens.expect(self.text, Symbol::DoubleColon)?;
+        let t = self.typ(tokens, None)?;
+        let span = tokens.span_from(from);
+        Ok(assert_expr(self.alloc, ExprId(0), span, e, t)?)
+    }
+
+    /// An expression without operators, with the type that it is said to have.
+    #[tactic(auto, unfolding(crate::specs::ReadExpressions::assertion))]
+    pub fn assertion(&self, tokens: &mut Tokens<'_, '_>) -> Result<Expr, ParseError>
+        requires { Nests self.now.text.now self.now.depth (E.pre self.now.exp) (E.post self.now.exp) (T.pre self.now.typ) (T.post self.now.typ) (B.pre self.now.block) (B.post self.now.block) }
+        ensures { Reads view_expr (values.assertion (strictly self.now.text.now) (readers (strictly self.now.text.now) self.now.depth) (place_of tokens.old)) result tokens.new }
+    {
+        let from = tokens.start();
+        let e = self.simple(tokens)?;
+        self.asserted(tokens, from, e)
     }
 }

@@ -52,7 +52,11 @@ fn is_in_parens(l: &Listed) -> bool
 pub fn in_parens(l: Listed) -> Option<TypeSyntax>
     ensures { seen_option result ≡ phrases.in_parens (seen_listed l) }
 {
-    if l.named || l.tailed { None } else { one_of(l.types) }
+    if l.named || l.tailed {
+        None
+    } else {
+        one_of(l.types)
+    }
 }
 
 /// Whether a list in parentheses goes on as a type.

@@ -115,7 +115,9 @@ impl<
         ensures { Reads seen_members (written.member (strictly self.now.text.now) (readers (strictly self.now.text.now) self.now.depth) (seen_members found) (place_of tokens.old)) result tokens.new }
     {
         let Members {
-            mut types, named, ..
+            mut types,
+            named,
+            ..
         } = found;
         if tokens.begins_tail() {
             let t = self.tail(tokens)?;

@@ -11,5 +11,10 @@ returns-then-turns-eq0 g c _ = refuses c.loop-tokens.invariant (sym c.goes_on.en
 pub loop-tokens-preserved : goal.loop-tokens-preserved
 loop-tokens-preserved g c = goes_on c.loop-tokens.invariant (sym c.goes_on.ensures ∙ c.loop-tokens-test.true) c.if-turns-eq0.false c.in_ok-given.ensures
 
+pub returns-in_err-given : goal.returns-in_err-given
+returns-in_err-given g c =
+    let p = err_from_is_err_and c.from_residual.result c.from_residual.ensures.1
+    in rw (p.1, p.2) (λ ne. fails c.loop-tokens.invariant (sym c.goes_on.ensures ∙ c.loop-tokens-test.true) c.if-turns-eq0.false (c.in_err-given.ensures ne))
+
 pub returns : goal.returns
 returns g c = stops c.loop-tokens.invariant (sym c.goes_on.ensures ∙ c.loop-tokens-test.false) ∙ search (rules, items_seen)

@@ -10,5 +10,10 @@ returns-then-turns-eq0 g c _ = refuses c.loop-given.invariant c.loop-given-test.
 pub loop-given-preserved : goal.loop-given-preserved
 loop-given-preserved g c = goes_on c.loop-given.invariant c.loop-given-test.true c.if-turns-eq0.false c.in_ok-given-2.ensures
 
+pub returns-in_err-given-2 : goal.returns-in_err-given-2
+returns-in_err-given-2 g c =
+    let p = err_from_is_err_and c.from_residual-in_err-given-2.result c.from_residual-in_err-given-2.ensures.1
+    in rw (p.1, p.2) (λ ne. fails c.loop-given.invariant c.loop-given-test.true c.if-turns-eq0.false (c.in_err-given-2.ensures ne))
+
 pub returns : goal.returns
 returns g c = stops c.loop-given.invariant c.loop-given-test.false
