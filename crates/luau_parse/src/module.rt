@@ -23,6 +23,7 @@ use std::alloc::Global;
 /// Deep enough for each text without a token at a level above 200.
 const MAX_DEPTH: usize = 202;
 
+#[cycle(phrases)]
 fn expression_at(
     alloc: Global,
     text: &[u8],
@@ -46,6 +47,7 @@ fn expression_at(
     grammar.expression_inside(tokens)
 }
 
+#[cycle(phrases)]
 fn type_at(
     alloc: Global,
     text: &[u8],
@@ -70,6 +72,7 @@ fn type_at(
     grammar.type_inside(tokens, begun)
 }
 
+#[cycle(phrases)]
 fn block_at(
     alloc: Global,
     text: &[u8],

@@ -81,6 +81,7 @@ impl<
     B: Fn(Global, &[u8], &mut Tokens<'_, '_>, usize) -> Result<Block, ParseError>,
 > Grammar<'s, E, T, B> {
     /// A unary operator and its operand.
+    #[cycle(operators)]
     #[tactic(auto, unfolding(crate::specs::ReadExpressions::unary))]
     pub fn unary(
         &self,
@@ -99,6 +100,7 @@ impl<
         Ok(unary_expr(self.alloc, ExprId(0), span, op, e)?)
     }
 
+    #[cycle(operators)]
     #[tactic(auto, unfolding(crate::specs::ReadExpressions::operand))]
     pub fn operand(&self, tokens: &mut Tokens<'_, '_>, turns: usize) -> Result<Expr, ParseError>
         requires { Nests self.now.text.now self.now.depth (E.pre self.now.exp) (E.post self.now.exp) (T.pre self.now.typ) (T.post self.now.typ) (B.pre self.now.block) (B.post self.now.block) }
@@ -111,6 +113,7 @@ impl<
     }
 
     /// A binary operator and its right operand, behind its left one.
+    #[cycle(operators)]
     #[tactic(auto, unfolding(crate::specs::ReadExpressions::binary))]
     pub fn binary(
         &self,
@@ -130,6 +133,7 @@ impl<
         Ok(binary_expr(self.alloc, ExprId(0), span, op, left, right)?)
     }
 
+    #[cycle(operators)]
     #[tactic(auto, unfolding(crate::specs::ReadExpressions::climb_step))]
     pub fn climb_step(
         &self,
@@ -148,6 +152,7 @@ impl<
     }
 
     /// Operators that bind tighter than a number, behind the first operand.
+    #[cycle(operators)]
     #[tactic(auto, unfolding(crate::specs::ReadExpressions::climb_from))]
     pub fn climb_from(
         &self,
@@ -173,6 +178,7 @@ impl<
     }
 
     /// Operands with operators that bind tighter than a number. The first number bounds how many operators stand within one another.
+    #[cycle(operators)]
     #[tactic(auto, unfolding(crate::specs::ReadExpressions::operation, crate::specs::ReadExpressions::climb))]
     pub fn operation(
         &self,
