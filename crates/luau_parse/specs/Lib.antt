@@ -13,6 +13,9 @@ pub mod ReadPhrases
 pub mod ReadTypes
 pub mod SeenTypes
 pub mod ReadExpressions
+pub mod Seen
 pub mod ReadStatements
+pub mod SeenStatements
 pub mod ReadModules
 pub mod Nests
+pub mod Parsed

@@ -45,6 +45,17 @@ tighter_by least (Some op) = if nat_lt least (tightness op) then Some op else No
 unfoldable pub tighter : ℕ → Place → Option BinOp
 tighter least p = tighter_by least (binary_of (symbol p))
 
+abbrev pub is_open : Varargs → Bool
+is_open tree.no_varargs = true
+is_open (tree.varargs t) = false
+
+-- another parameter may follow
+abbrev pub goes_parameters : Parameters → Place → Bool
+goes_parameters given p = is_open given.rest && sees s.Comma p
+
+abbrev pub no_parameters : Parameters
+no_parameters = record { found = []; rest = tree.no_varargs }
+
 module _ (set : Setting) (inner : Readers) where
   abbrev expression : Parser Expr
   expression = phrases.expression set inner
@@ -80,40 +91,44 @@ module _ (set : Setting) (inner : Readers) where
   unfoldable pub var_type : Parser TypeSyntax
   var_type = λ p. if sees_pack p then types.generic_pack set inner p else typ None p
 
+  unfoldable pub var_annotation : Parser MaybeType
+  var_annotation = λ p.
+      if sees s.Colon p then (do
+        read.expect set s.Colon
+        t ← var_type
+        pure (tree.a_type t)) p
+      else Ok (tree.no_type, p)
+
   unfoldable pub varparam : Parser MaybeType
-  varparam = do
-    read.expect set s.Dots
-    (λ p. if sees s.Colon p then (do
-      read.expect set s.Colon
-      t ← var_type
-      pure (tree.a_type t)) p
-        else Ok (tree.no_type, p))
+  varparam = read.expect set s.Dots >> var_annotation
+
+  unfoldable pub rest_parameter : Parameters → Parser Parameters
+  rest_parameter given = do
+    t ← varparam
+    pure (record { found = given.found; rest = tree.varargs t })
+
+  unfoldable pub named_parameter : Parameters → Parser Parameters
+  named_parameter given = do
+    x ← bind
+    pure (record { found = given.found ++ x ∷ []; rest = tree.no_varargs })
 
   unfoldable pub parameter : Parameters → Parser Parameters
-  parameter given = λ p.
-      if sees s.Dots p then (do
-        t ← varparam
-        pure (record { found = given.found; rest = tree.varargs t })) p
-      else (do
-        x ← bind
-        pure (record { found = given.found ++ x ∷ []; rest = tree.no_varargs })) p
+  parameter given = λ p. if sees s.Dots p then rest_parameter given p else named_parameter given p
 
-  abbrev pub is_open : Varargs → Bool
-  is_open tree.no_varargs = true
-  is_open (tree.varargs t) = false
-
-  abbrev pub goes_parameters : Parameters → Place → Bool
-  goes_parameters given p = is_open given.rest && sees s.Comma p
-
-  abbrev pub another_parameter : Parameters → Parser Parameters
+  unfoldable pub another_parameter : Parameters → Parser Parameters
   another_parameter given = read.expect set s.Comma >> parameter given
 
+  -- behind some of them
+  unfoldable pub parameters_from : Parameters → Parser Parameters
+  parameters_from given = read.repeat set goes_parameters another_parameter given
+
+  unfoldable pub some_parameters : Parser Parameters
+  some_parameters = do
+    first ← parameter no_parameters
+    parameters_from first
+
   unfoldable pub parameters : Parser Parameters
-  parameters = λ p.
-      if sees s.RightParen p then Ok (record { found = []; rest = tree.no_varargs }, p)
-      else (do
-        first ← parameter (record { found = []; rest = tree.no_varargs })
-        read.repeat set goes_parameters another_parameter first) p
+  parameters = λ p. if sees s.RightParen p then Ok (no_parameters, p) else some_parameters p
 
   unfoldable pub maybe_result : Parser MaybeType
   maybe_result = λ p.
@@ -445,12 +460,17 @@ module _ (set : Setting) (inner : Readers) where
   abbrev pub climb_step : (ℕ → Parser Expr) → ℕ → Expr → Parser Expr
   climb_step operation from left p = climb_by operation from left (binary_of (symbol p)) p
 
+  -- operators that bind tighter than a number, behind the first operand
+  unfoldable pub climb_from : (ℕ → Parser Expr) → ℕ → ℕ → Expr → Parser Expr
+  climb_from operation least from first =
+      read.repeat set (λ _ p. is_some (tighter least p)) (climb_step operation from) first
+
   -- operands with operators that bind tighter than a number, where the parser of operations reads right operands
   unfoldable pub climb : (ℕ → Parser Expr) → ℕ → Parser Expr
   climb operation least = do
     from ← start
     first ← operand operation
-    read.repeat set (λ _ p. is_some (tighter least p)) (climb_step operation from) first
+    climb_from operation least from first
 
   -- the first number bounds how many operators stand within one another
   unfoldable pub operation : ℕ → ℕ → Parser Expr

@@ -27,6 +27,12 @@ pub record MethodName : Type 0 where
   pub name : Option (List ℕ)
   pub span : Option Span
 
+-- the bounds of a numeric loop, and its step
+pub record Range : Type 0 where
+  pub first : Expr
+  pub to : Expr
+  pub step : MaybeExpr
+
 module _ (set : Setting) (inner : Readers) where
   abbrev expression : Parser Expr
   expression = phrases.expression set inner
@@ -144,17 +150,22 @@ module _ (set : Setting) (inner : Readers) where
         pure (tree.an_expr e)) p
       else Ok (tree.no_expr, p)
 
-  -- behind the variable
-  unfoldable pub numeric_for : ℕ → Bind → Parser Stat
-  numeric_for from x = do
-    read.expect set s.Assign
+  unfoldable pub range : Parser Range
+  range = do
     first ← expression
     read.expect set s.Comma
     to ← expression
     step ← maybe_step
+    pure (record { first = first; to = to; step = step })
+
+  -- behind the variable
+  unfoldable pub numeric_for : ℕ → Bind → Parser Stat
+  numeric_for from x = do
+    read.expect set s.Assign
+    r ← range
     b ← do_block
     span ← span_from from
-    pure (tree.the_stat span (tree.NumFor x first to step b))
+    pure (tree.the_stat span (tree.NumFor x r.first r.to r.step b))
 
   -- behind the first variable
   unfoldable pub generic_for : ℕ → Bind → Parser Stat

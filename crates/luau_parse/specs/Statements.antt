@@ -27,7 +27,8 @@ closes s.Until = true
 closes s.Stop = true
 closes _ = false
 
-abbrev second_bytes : List Tok → List ℕ
+-- the bytes of the token behind the next
+abbrev pub second_bytes : List Tok → List ℕ
 second_bytes [] = []
 second_bytes (t ∷ ts) = first_bytes ts
 

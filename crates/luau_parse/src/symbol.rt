@@ -321,3 +321,18 @@ pub fn begins_block(symbol: Symbol) -> bool
             | Symbol::Break
     )
 }
+
+/// Whether a symbol ends a block or separates statements: what stands behind the statement `continue`.
+pub fn closes(symbol: Symbol) -> bool
+    ensures { result ≡ statements.closes symbol }
+{
+    matches!(
+        symbol,
+        Symbol::Semicolon
+            | Symbol::End
+            | Symbol::Else
+            | Symbol::ElseIf
+            | Symbol::Until
+            | Symbol::Stop
+    )
+}

@@ -4,13 +4,14 @@ ghost use Rattle.luau_lex.specs.Tokens.{seen_token};
 ghost use Rattle.luau_parse.specs.Places as places;
 ghost use Rattle.luau_parse.specs.Modules.{on_one_line, before, max_level};
 ghost use Rattle.luau_parse.specs.Expressions as expressions;
+ghost use Rattle.luau_parse.specs.Statements as statements;
 ghost use Rattle.luau_parse.specs.ReadTypes as types;
 ghost use Rattle.luau_parse.specs.Reading as reading;
 ghost use Rattle.luau_parse.specs.Reading.{strictly, ◌>>◌, pure};
 ghost use Rattle.luau_parse.specs.Outcomes.{Reads, place_of, itself};
 
 use crate::error::ParseError;
-use crate::symbol::{Symbol, same, symbol_of};
+use crate::symbol::{Symbol, closes, same, symbol_of};
 use luau_lex::{Token, value_of};
 use luau_tree::{Bytes, MAX_TEXT, Span};
 use std::alloc::{AllocError, Global};
@@ -138,6 +139,40 @@ impl<'t, 's> Tokens<'t, 's> {
         ensures { result ≡ places.sees_word word.now (place_of self.now) }
     {
         self.sees(Symbol::Name) && self.bytes() == word
+    }
+
+    /// The bytes of the token behind the next.
+    fn bytes_behind(&self) -> &[u8]
+        ensures { result.now ≡ statements.second_bytes (place_of self.now).ahead }
+    {
+        match self.ahead {
+            [_, token, ..] => token.text,
+            _ => &[],
+        }
+    }
+
+    /// Whether the next token is the word `continue`, and not a name.
+    pub fn sees_continue(&self) -> bool
+        ensures { result ≡ statements.sees_continue (place_of self.now) }
+    {
+        self.sees_word(b"continue") && closes(self.symbol_behind())
+    }
+
+    /// Whether the next token is the word `type`, and not a name.
+    pub fn sees_type(&self) -> bool
+        ensures { result ≡ statements.sees_type (place_of self.now) }
+    {
+        self.sees_word(b"type")
+            && (self.sees_behind(Symbol::Name) || self.sees_behind(Symbol::Function))
+    }
+
+    /// Whether the next token is the word `export`, and not a name.
+    pub fn sees_export(&self) -> bool
+        ensures { result ≡ statements.sees_export (place_of self.now) }
+    {
+        self.sees_word(b"export")
+            && self.sees_behind(Symbol::Name)
+            && self.bytes_behind() == b"type".as_slice()
     }
 
     /// Where the next token begins.
