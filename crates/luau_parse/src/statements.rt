@@ -1,7 +1,9 @@
 //! Statements by their first symbol, and blocks of them.
-ghost use Rattle.std.specs.Prelude.{◌≡◌};
+ghost use Rattle.std.specs.Prelude.{◌≡◌, ◌&&◌, not};
 ghost use Rattle.luau_tree.specs.Tree as tree;
 ghost use Rattle.luau_tree.specs.View.{view_block, view_exprs, view_stat};
+ghost use Rattle.luau_parse.specs.Places.{symbol};
+ghost use Rattle.luau_parse.specs.Statements as grammar;
 ghost use Rattle.luau_parse.specs.SeenStatements.{seen_statements};
 ghost use Rattle.luau_parse.specs.Nests.{Nests};
 ghost use Rattle.luau_parse.specs.Outcomes.{Reads, place_of};
@@ -30,7 +32,7 @@ pub struct Statements {
 
 /// Whether another statement of a block stands at a place.
 fn goes_on(tokens: &Tokens<'_, '_>, given: &Statements) -> bool
-    ensures { result ≡ statements.goes_statements (seen_statements given.now) (place_of tokens.now) }
+    ensures { result ≡ (not (seen_statements given.now).ended && grammar.begins (symbol (place_of tokens.now))) }
 {
     !given.ended && begins_block(tokens.symbol())
 }

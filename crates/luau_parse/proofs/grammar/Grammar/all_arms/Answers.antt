@@ -6,15 +6,15 @@ use Rattle.luau_parse.proofs.Lists.{arms_seen}
 use Rattle.luau_parse.proofs.grammar.Grammar.all_arms.Goals as goal
 
 pub returns-then-turns-eq0 : goal.returns-then-turns-eq0
-returns-then-turns-eq0 g c _ = refuses c.loop-tokens.invariant (sym c.sees.ensures ∙ c.loop-tokens-test.true) c.if-turns-eq0.true ∙ ap Err (sym c.refusal.ensures)
+returns-then-turns-eq0 g c _ = refuses c.loop-found.invariant (sym c.sees.ensures ∙ c.loop-found-test.true) c.if-turns-eq0.true ∙ ap Err (sym c.refusal.ensures)
 
-pub loop-tokens-preserved : goal.loop-tokens-preserved
-loop-tokens-preserved g c = goes_on c.loop-tokens.invariant (sym c.sees.ensures ∙ c.loop-tokens-test.true) c.if-turns-eq0.false c.in_ok-another_arm.ensures
+pub loop-found-preserved : goal.loop-found-preserved
+loop-found-preserved g c = goes_on c.loop-found.invariant (sym c.sees.ensures ∙ c.loop-found-test.true) c.if-turns-eq0.false c.in_ok-found-2.ensures
 
-pub returns-in_err-another_arm : goal.returns-in_err-another_arm
-returns-in_err-another_arm g c =
-    let p = err_from_is_err_and c.from_residual-in_err-another_arm.result c.from_residual-in_err-another_arm.ensures.1
-    in rw (p.1, p.2) (λ ne. fails c.loop-tokens.invariant (sym c.sees.ensures ∙ c.loop-tokens-test.true) c.if-turns-eq0.false (c.in_err-another_arm.ensures ne))
+pub returns-in_err-found-2 : goal.returns-in_err-found-2
+returns-in_err-found-2 g c =
+    let p = err_from_is_err_and c.from_residual-in_err-found-2.result c.from_residual-in_err-found-2.ensures.1
+    in rw (p.1, p.2) (λ ne. fails c.loop-found.invariant (sym c.sees.ensures ∙ c.loop-found-test.true) c.if-turns-eq0.false (c.in_err-found-2.ensures ne))
 
 pub returns : goal.returns
-returns g c = stops c.loop-tokens.invariant (sym c.sees.ensures ∙ c.loop-tokens-test.false) ∙ search (rules, arms_seen)
+returns g c = stops c.loop-found.invariant (sym c.sees.ensures ∙ c.loop-found-test.false) ∙ search (rules, arms_seen)

@@ -11,10 +11,10 @@ use Rattle.luau_parse.proofs.Repeats.{Remains}
 use Rattle.luau_parse.proofs.grammar.Grammar.all_arms.Given as goal
 
 -- what is left to read gives the whole
-abbrev pub invariant-loop-tokens : goal.invariant-loop-tokens
-invariant-loop-tokens g l =
+abbrev pub invariant-loop-found : goal.invariant-loop-found
+invariant-loop-found g l =
     Remains (List (Expr × Block)) Arms (strictly l.self.text.now) (λ _ p. sees s.ElseIf p) (another_arm (strictly l.self.text.now) (readers (strictly l.self.text.now) l.self.depth)) (λ found. pure (arms found)) l.turns (map view_arm l.found) (place_of l.tokens)
     (all_arms (strictly l.self.text.now) (readers (strictly l.self.text.now) l.self.depth) (place_of l.fn.tokens))
 
-abbrev pub decreases-loop-tokens : goal.decreases-loop-tokens
-decreases-loop-tokens g l = l.turns
+abbrev pub decreases-loop-found : goal.decreases-loop-found
+decreases-loop-found g l = l.turns

@@ -1,6 +1,6 @@
 use Rattle.std.proofs.Common.{rules, arith, ◌≡◌, sym, ◌∙◌, ap, refl}
 use Rattle.std.proofs.lemmas.Result.{err_from_is_err_and}
-use Rattle.std.specs.Prelude.{Err}
+use Rattle.std.specs.Prelude.{Ok, Err}
 use Rattle.luau_parse.proofs.Repeats.{stops, refuses, goes_on, fails}
 use Rattle.luau_parse.proofs.Lists.{stats_seen}
 use Rattle.luau_parse.proofs.grammar.Grammar.block_inside.Goals as goal
@@ -9,12 +9,12 @@ pub returns-then-turns-eq0 : goal.returns-then-turns-eq0
 returns-then-turns-eq0 g c _ = refuses c.loop-tokens.invariant (sym c.goes_on.ensures ∙ c.loop-tokens-test.true) c.if-turns-eq0.true ∙ ap Err (sym c.refusal.ensures)
 
 pub loop-tokens-preserved : goal.loop-tokens-preserved
-loop-tokens-preserved g c = goes_on c.loop-tokens.invariant (sym c.goes_on.ensures ∙ c.loop-tokens-test.true) c.if-turns-eq0.false c.in_ok-another_statement.ensures
+loop-tokens-preserved g c = goes_on c.loop-tokens.invariant (sym c.goes_on.ensures ∙ c.loop-tokens-test.true) c.if-turns-eq0.false c.in_ok-given.ensures
 
-pub returns-in_err-another_statement : goal.returns-in_err-another_statement
-returns-in_err-another_statement g c =
-    let p = err_from_is_err_and c.from_residual-in_err-another_statement.result c.from_residual-in_err-another_statement.ensures.1
-    in rw (p.1, p.2) (λ ne. fails c.loop-tokens.invariant (sym c.goes_on.ensures ∙ c.loop-tokens-test.true) c.if-turns-eq0.false (c.in_err-another_statement.ensures ne))
+pub returns-in_err-given : goal.returns-in_err-given
+returns-in_err-given g c =
+    let p = err_from_is_err_and c.from_residual.result c.from_residual.ensures.1
+    in rw (p.1, p.2) (λ ne. fails c.loop-tokens.invariant (sym c.goes_on.ensures ∙ c.loop-tokens-test.true) c.if-turns-eq0.false (c.in_err-given.ensures ne))
 
 pub returns : goal.returns
-returns g c = stops c.loop-tokens.invariant (sym c.goes_on.ensures ∙ c.loop-tokens-test.false) ∙ search (rules, stats_seen)
+returns g c = stops c.loop-tokens.invariant (sym c.goes_on.ensures ∙ c.loop-tokens-test.false) ∙ ap (λ b. Ok (b, _)) (stats_seen _ ∙ sym c.block_of.ensures)

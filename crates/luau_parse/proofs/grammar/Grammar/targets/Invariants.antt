@@ -12,10 +12,10 @@ use Rattle.luau_parse.proofs.Repeats.{Remains}
 use Rattle.luau_parse.proofs.grammar.Grammar.targets.Given as goal
 
 -- what is left to read gives the whole
-abbrev pub invariant-loop-tokens : goal.invariant-loop-tokens
-invariant-loop-tokens g l =
+abbrev pub invariant-loop-found : goal.invariant-loop-found
+invariant-loop-found g l =
     Remains (List Expr) (List Expr) (strictly l.self.text.now) (λ _ p. sees s.Comma p) (another (strictly l.self.text.now) (variable (strictly l.self.text.now) (readers (strictly l.self.text.now) l.self.depth))) (λ x. pure x) l.turns (map view_expr l.found) (place_of l.tokens)
     (separated_from (strictly l.self.text.now) (variable (strictly l.self.text.now) (readers (strictly l.self.text.now) l.self.depth)) (view_expr l.fn.first ∷ []) (place_of l.fn.tokens))
 
-abbrev pub decreases-loop-tokens : goal.decreases-loop-tokens
-decreases-loop-tokens g l = l.turns
+abbrev pub decreases-loop-found : goal.decreases-loop-found
+decreases-loop-found g l = l.turns
