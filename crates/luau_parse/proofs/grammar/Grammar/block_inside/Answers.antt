@@ -1,8 +1,9 @@
-use Rattle.std.proofs.Common.{rules, arith, ◌≡◌, sym, ◌∙◌, ap, refl}
+use Rattle.std.proofs.Common.{sym, ◌∙◌, ap}
 use Rattle.std.proofs.lemmas.Result.{err_from_is_err_and}
-use Rattle.std.specs.Prelude.{Ok, Err}
+use Rattle.std.specs.Prelude.{Err}
 use Rattle.luau_parse.proofs.Repeats.{stops, refuses, goes_on, fails}
 use Rattle.luau_parse.proofs.Lists.{stats_seen}
+use Rattle.luau_parse.proofs.Steps.{ok_same}
 use Rattle.luau_parse.proofs.grammar.Grammar.block_inside.Goals as goal
 
 pub returns-then-turns-eq0 : goal.returns-then-turns-eq0
@@ -17,4 +18,4 @@ returns-in_err-given g c =
     in rw (p.1, p.2) (λ ne. fails c.loop-tokens.invariant (sym c.goes_on.ensures ∙ c.loop-tokens-test.true) c.if-turns-eq0.false (c.in_err-given.ensures ne))
 
 pub returns : goal.returns
-returns g c = stops c.loop-tokens.invariant (sym c.goes_on.ensures ∙ c.loop-tokens-test.false) ∙ ap (λ b. Ok (b, _)) (stats_seen _ ∙ sym c.block_of.ensures)
+returns g c = ok_same _ _ _ _ (stops c.loop-tokens.invariant (sym c.goes_on.ensures ∙ c.loop-tokens-test.false)) (stats_seen _ ∙ sym c.block_of.ensures)
