@@ -1,2 +1,5 @@
 pub mod InOrder
+pub mod Layers
 pub mod Matches
+pub mod ScopeLemmas
+pub mod Walk
