@@ -7,6 +7,7 @@ pub mod Ends
 pub mod Cuts
 pub mod Calls
 pub mod Reported
+pub mod RefusedLines
 pub mod ReportedLines
 pub mod Members
 pub mod Telling

@@ -1,8 +1,8 @@
 -- What is in a list, in its values under a function, and in what a test keeps of it.
-use Rattle.std.proofs.Common.{◌≡◌, zero, suc, Bool, true, false, if◌then◌else◌, ◌⊎◌, inl, inr, List, [], ◌∷◌, map, filter, refl, ap, sym, ◌∙◌, arith, Contains}
+use Rattle.std.proofs.Common.{◌≡◌, zero, suc, Bool, true, false, if◌then◌else◌, ◌⊎◌, inl, inr, List, [], ◌∷◌, ◌++◌, map, filter, refl, ap, sym, ◌∙◌, arith, Contains}
 
 -- an element is the first one or one behind it
-first_or_later : {X : Type 0} (y : X) (ys : List X) (x : X) → Contains (y ∷ ys) x → (y ≡ x) ⊎ Contains ys x
+pub first_or_later : {X : Type 0} (y : X) (ys : List X) (x : X) → Contains (y ∷ ys) x → (y ≡ x) ⊎ Contains ys x
 first_or_later y ys x (zero, l, e) = inl e
 first_or_later y ys x (suc k, l, e) = inr (k, omega (arith, l), e)
 
@@ -14,6 +14,19 @@ later y ys x c = (suc c.0, omega (arith, c.1), c.2)
 
 pub none_there : {X : Type 0} (x : X) → Contains [] x → ⊥
 none_there x c = absurd (omega (arith, c.1))
+
+-- an element of two lists is in one of them
+pub in_either : {X : Type 0} (xs ys : List X) (x : X) → Contains (xs ++ ys) x → Contains xs x ⊎ Contains ys x
+in_either [] ys x c = inr c
+in_either (y ∷ xs) ys x c = by_place (first_or_later y (xs ++ ys) x c) (λ k. in_either xs ys x k)
+  where
+    by_rest : Contains xs x ⊎ Contains ys x → Contains (y ∷ xs) x ⊎ Contains ys x
+    by_rest (inl k) = inl (later y xs x k)
+    by_rest (inr k) = inr k
+
+    by_place : (y ≡ x) ⊎ Contains (xs ++ ys) x → (Contains (xs ++ ys) x → Contains xs x ⊎ Contains ys x) → Contains (y ∷ xs) x ⊎ Contains ys x
+    by_place (inl e) again = inl (first y xs x e)
+    by_place (inr k) again = by_rest (again k)
 
 -- the value of an element is among the values
 pub among_values : {X Y : Type 0} (f : X → Y) (xs : List X) (x : X) → Contains xs x → Contains (map f xs) (f x)

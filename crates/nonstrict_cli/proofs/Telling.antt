@@ -11,11 +11,12 @@ use Rattle.outside.specs.Written.{Appends}
 use Rattle.nonstrict_cli.specs.declared.status.Limit.{Limit}
 use Rattle.nonstrict_cli.specs.Checked.{Module, checked, checked_for, checked_modules, checked_within}
 use Rattle.nonstrict_cli.specs.Command.{command}
-use Rattle.nonstrict_cli.specs.Folder.{limit_of}
+use Rattle.nonstrict_cli.specs.Folder.{limit_of, module_paths}
 use Rattle.nonstrict_cli.specs.Lines.{lines_by_module, lines_of}
 use Rattle.nonstrict_cli.specs.Output.{output, output_for, output_within}
 use Rattle.nonstrict_cli.specs.Reports.{HasLine, IsReported, ReportsAreCertain, TellReports, WritesCertainReports, line_of, reports, says_failure}
 use Rattle.nonstrict_cli.proofs.Members.{among_values, kept, none_there, passes, value_of_one}
+use Rattle.nonstrict_cli.proofs.RefusedLines.{of_files}
 use Rattle.nonstrict_cli.proofs.ReportedLines.{failures_in, lines_are_reports}
 
 unwrapped : {X : Type 0} (x y : X) → ◌≡◌ {A = Option X} (Some x) (Some y) → x ≡ y
@@ -43,6 +44,7 @@ pub folder_is_told : IsTotalOrder line_cmp → IsAntisymmetric line_cmp → ((li
     → (files : List File) → TellReports (lines_of files) (checked_modules files)
 folder_is_told total exact in_order same files = record {
   told = λ line there fails. one_is_told files line ((same (lines_by_module files) line).0 there) fails;
+  others = λ line there quiet. of_files files (module_paths files) line ((same (lines_by_module files) line).0 there) quiet;
   all = λ report there. let found = one_has_line files report there in (found.0, (same (lines_by_module files) found.0).1 found.1, found.2, found.3);
   once = in_order (lines_by_module files);
 }
@@ -51,6 +53,7 @@ folder_is_told total exact in_order same files = record {
 nothing_is_told : TellReports [] []
 nothing_is_told = record {
   told = λ line there fails. absurd (none_there line there);
+  others = λ line there quiet. absurd (none_there line there);
   all = λ report there. absurd (none_there report there);
   once = λ i j d below within. absurd (omega arith);
 }

@@ -1,6 +1,6 @@
 -- What is claimed of what a run writes: its lines tell the reports of the modules that it checked,
 -- and these are certain.
-use Rattle.std.specs.Prelude.{◌≡◌, ℕ, Bool, true, not, List, Option, Some, Contains, AllPairs, slice_get, option_map, map, flat_map}
+use Rattle.std.specs.Prelude.{◌≡◌, ℕ, Bool, true, false, not, ◌++◌, List, Option, Some, Contains, AllPairs, slice_get, option_map, map, flat_map, codes}
 use Rattle.std.specs.Option.{option_and_then}
 use Rattle.std.specs.declared.cmp.Ordering.TheVariants.{Less}
 use Rattle.luau_tree.specs.declared.names.Place.{Place}
@@ -17,6 +17,8 @@ use Rattle.rules_certain.specs.Reports.{reports_of}
 use Rattle.nonstrict_cli.specs.Checked.{Module}
 use Rattle.nonstrict_cli.specs.Lines.{argument_line}
 use Rattle.nonstrict_cli.specs.Output.{is_refusal}
+use Rattle.nonstrict_cli.specs.declared.reason.Reason.{Reason}
+use Rattle.nonstrict_cli.specs.Reason.{reason_text}
 
 -- the calls of each module
 abbrev pub calls_of : List Module → List (List Written)
@@ -42,6 +44,10 @@ line_of modules report = option_and_then (λ m. line_at m report.1) (slice_get m
 abbrev pub says_failure : Line → Bool
 says_failure line = not (is_refusal line.kind)
 
+-- a line says why a file isn't checked
+abbrev pub SaysRefusal : Line → Type 0
+SaysRefusal line = (why : Reason) × (line.message ≡ codes "refused: " ++ reason_text why)
+
 -- a line is that of a report
 abbrev pub IsReported : List Module → Line → Type 0
 IsReported modules line =
@@ -54,9 +60,10 @@ HasLine modules lines report =
     (line_of modules report ≡ Some line)
 
 -- some lines tell the reports of these modules: each that says what fails is that of a report, each
--- report has its line, and no line stands twice
+-- other says why a file isn't checked, each report has its line, and no line stands twice
 pub record TellReports (lines : List Line) (modules : List Module) : Type 0 where
   pub told : (line : Line) → Contains lines line → says_failure line ≡ true → IsReported modules line
+  pub others : (line : Line) → Contains lines line → says_failure line ≡ false → SaysRefusal line
   pub all : (report : ℕ × Place) → Contains (reports modules) report → HasLine modules lines report
   pub once : AllPairs (λ a b. line_cmp a b ≡ Less) lines
 
