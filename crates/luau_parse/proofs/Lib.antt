@@ -1,3 +1,0 @@
-pub mod Lists
-pub mod Repeats
-pub mod Steps
