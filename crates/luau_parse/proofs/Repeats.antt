@@ -1,9 +1,9 @@
 -- Loops against `repeats`: what one turn of a loop does to the whole that it reads.
 use Rattle.std.proofs.Common.{◌≡◌, ◌≢◌, ℕ, zero, suc, ◌-◌, Bool, true, false, refl, sym, ◌∙◌, ap, arith}
 use Rattle.std.specs.Prelude.{Ok, Err, Result}
-use Rattle.luau_parse.specs.declared.error.ParseError.{ParseError}
-use Rattle.luau_parse.specs.Places.{Place}
-use Rattle.luau_parse.specs.Reading.{Setting, Parser, Outcome, and_then, pure, refusal, repeats}
+use Rattle.luau_grammar.specs.declared.error.ParseError.{ParseError}
+use Rattle.luau_grammar.specs.Places.{Place}
+use Rattle.luau_grammar.specs.Reading.{Setting, Parser, Outcome, and_then, pure, refusal, repeats}
 
 -- What is left to read, and then what comes behind the loop, gives the whole.
 pub record Remains (S R : Type 0) (set : Setting) (goes : S → Place → Bool) (step : S → Parser S) (behind : S → Parser R)

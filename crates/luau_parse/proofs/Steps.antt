@@ -2,8 +2,8 @@
 use Rattle.std.proofs.Common.{◌≡◌, List, [], ◌∷◌, ◌++◌, map, sym, ap, ◌∙◌}
 use Rattle.std.proofs.lemmas.List.{map-append}
 use Rattle.std.specs.Prelude.{Ok, Result}
-use Rattle.luau_parse.specs.declared.error.ParseError.{ParseError}
-use Rattle.luau_parse.specs.Places.{Place}
+use Rattle.luau_grammar.specs.declared.error.ParseError.{ParseError}
+use Rattle.luau_grammar.specs.Places.{Place}
 
 pub one_more : {A B : Type 0} (f : A → B) (xs : List A) (x : A) (all : List A) → all ≡ xs ++ x ∷ [] → map f xs ++ f x ∷ [] ≡ map f all
 one_more f xs x all e = sym (ap (map f) e ∙ map-append f xs (x ∷ []))

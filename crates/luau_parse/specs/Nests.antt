@@ -7,12 +7,12 @@ use Rattle.luau_tree.specs.declared.tree.Block.{Block}
 use Rattle.luau_tree.specs.declared.tree.Expr.{Expr}
 use Rattle.luau_tree.specs.declared.tree.TypeSyntax.{TypeSyntax}
 use Rattle.luau_tree.specs.View.{view_block, view_expr, view_type}
-use Rattle.luau_parse.specs.declared.error.ParseError.{ParseError}
+use Rattle.luau_grammar.specs.declared.error.ParseError.{ParseError}
 use Rattle.luau_parse.specs.declared.tokens.Tokens.{Tokens}
 use Rattle.luau_parse.specs.declared.listed.Listed.{Listed}
 use Rattle.luau_parse.specs.Outcomes.{Reads, place_of, maybe_listed}
-use Rattle.luau_parse.specs.Reading.{strictly, Readers}
-use Rattle.luau_parse.specs.ReadModules.{readers}
+use Rattle.luau_grammar.specs.Reading.{strictly, Readers}
+use Rattle.luau_grammar.specs.ReadModules.{readers}
 
 -- Each function value may be called, and reads what its parser gives, with phrases that hold one another at most so
 -- many deep.

@@ -2,14 +2,14 @@
 use Rattle.std.specs.Prelude.{◌≡◌, ◌≢◌, ℕ, List, map, Option, Some, None, Result, Ok, Err, ◌≤◌, length}
 use Rattle.luau_lex.specs.Tokens.{seen_token}
 use Rattle.luau_lex.specs.declared.token.Token.{Token}
-use Rattle.luau_parse.specs.declared.error.ParseError.{ParseError}
-use Rattle.luau_parse.specs.declared.error.ParseError.TheVariants.{NoMemory}
+use Rattle.luau_grammar.specs.declared.error.ParseError.{ParseError}
+use Rattle.luau_grammar.specs.declared.error.ParseError.TheVariants.{NoMemory}
 use Rattle.luau_parse.specs.declared.tokens.Tokens.{Tokens}
 use Rattle.luau_parse.specs.declared.listed.Listed as code
-use Rattle.luau_parse.specs.Phrases.{Listed}
+use Rattle.luau_grammar.specs.Phrases.{Listed}
 use Rattle.luau_tree.specs.View.{view_type}
-use Rattle.luau_parse.specs.Places.{Place}
-use Rattle.luau_parse.specs.Reading.{Outcome}
+use Rattle.luau_grammar.specs.Places.{Place}
+use Rattle.luau_grammar.specs.Reading.{Outcome}
 
 abbrev pub place_of : Tokens → Place
 place_of t = record { ahead = map seen_token t.ahead.now; last = t.last; level = t.level }

@@ -1,20 +1,19 @@
 //! Expressions without operators, by their first symbol.
 ghost use Rattle.std.specs.Prelude.{map};
 ghost use Rattle.luau_tree.specs.Tree as tree;
+ghost use Rattle.luau_grammar.specs.ReadExpressions as values;
 ghost use Rattle.luau_tree.specs.View.{view_choice, view_choices, view_expr};
 ghost use Rattle.luau_parse.specs.Seen.{seen_interpolated};
 ghost use Rattle.luau_parse.specs.Nests.{Nests};
 ghost use Rattle.luau_parse.specs.Outcomes.{Reads, place_of};
-ghost use Rattle.luau_parse.specs.Reading.{strictly};
-ghost use Rattle.luau_parse.specs.ReadModules.{readers};
-ghost use Rattle.luau_parse.specs.ReadExpressions as values;
+ghost use Rattle.luau_grammar.specs.Reading.{strictly};
+ghost use Rattle.luau_grammar.specs.ReadModules.{readers};
 
-use crate::error::ParseError;
 use crate::grammar::Grammar;
 use crate::interpolated::{Interpolated, begun, finished, one};
 use crate::listed::Listed;
-use crate::symbol::Symbol;
 use crate::tokens::{Tokens, copy};
+use luau_grammar::{ParseError, Symbol};
 use luau_tree::exprs::{
     assert_expr, false_expr, function_expr, if_else_expr, nil_expr, number_expr, str_expr,
     table_expr, true_expr, vararg_expr,
@@ -36,8 +35,8 @@ impl<
     ) -> Result<TypeSyntax, ParseError>,
     B: Fn(Global, &[u8], &mut Tokens<'_, '_>, usize) -> Result<Block, ParseError>,
 > Grammar<'s, E, T, B> {
-    #[tactic(auto, unfolding(crate::specs::ReadExpressions::choice))]
-    fn choice(&self, tokens: &mut Tokens<'_, '_>, word: Symbol) -> Result<Choice, ParseError>
+    #[tactic(auto, unfolding(luau_grammar::specs::ReadExpressions::choice))]
+    pub fn choice(&self, tokens: &mut Tokens<'_, '_>, word: Symbol) -> Result<Choice, ParseError>
         requires { Nests self.now.text.now self.now.depth (E.pre self.now.exp) (E.post self.now.exp) (T.pre self.now.typ) (T.post self.now.typ) (B.pre self.now.block) (B.post self.now.block) }
         ensures { Reads view_choice (values.choice (strictly self.now.text.now) (readers (strictly self.now.text.now) self.now.depth) word (place_of tokens.old)) result tokens.new }
     {
@@ -48,8 +47,8 @@ impl<
         Ok(choice_of(cond, value))
     }
 
-    #[tactic(auto, unfolding(crate::specs::ReadExpressions::another_choice))]
-    fn another_choice(
+    #[tactic(auto, unfolding(luau_grammar::specs::ReadExpressions::another_choice))]
+    pub fn another_choice(
         &self,
         tokens: &mut Tokens<'_, '_>,
         mut found: Items<Choice>,
@@ -62,8 +61,8 @@ impl<
         Ok(found)
     }
 
-    #[tactic(auto, using(crate::proofs::Lists::choices_seen), unfolding(crate::specs::ReadExpressions::all_choices))]
-    fn all_choices(&self, tokens: &mut Tokens<'_, '_>) -> Result<Items<Choice>, ParseError>
+    #[tactic(auto, using(crate::proofs::Lists::choices_seen), unfolding(luau_grammar::specs::ReadExpressions::all_choices))]
+    pub fn all_choices(&self, tokens: &mut Tokens<'_, '_>) -> Result<Items<Choice>, ParseError>
         requires { Nests self.now.text.now self.now.depth (E.pre self.now.exp) (E.post self.now.exp) (T.pre self.now.typ) (T.post self.now.typ) (B.pre self.now.block) (B.post self.now.block) }
         ensures { Reads view_choices (values.all_choices (strictly self.now.text.now) (readers (strictly self.now.text.now) self.now.depth) (place_of tokens.old)) result tokens.new }
     {
@@ -80,8 +79,8 @@ impl<
         Ok(found)
     }
 
-    #[tactic(auto, unfolding(crate::specs::ReadExpressions::if_else))]
-    fn if_else(&self, tokens: &mut Tokens<'_, '_>, from: u32) -> Result<Expr, ParseError>
+    #[tactic(auto, unfolding(luau_grammar::specs::ReadExpressions::if_else))]
+    pub fn if_else(&self, tokens: &mut Tokens<'_, '_>, from: u32) -> Result<Expr, ParseError>
         requires { Nests self.now.text.now self.now.depth (E.pre self.now.exp) (E.post self.now.exp) (T.pre self.now.typ) (T.post self.now.typ) (B.pre self.now.block) (B.post self.now.block) }
         ensures { Reads view_expr (values.if_else (strictly self.now.text.now) (readers (strictly self.now.text.now) self.now.depth) from (place_of tokens.old)) result tokens.new }
     {
@@ -92,8 +91,8 @@ impl<
         Ok(if_else_expr(self.alloc, ExprId(0), span, arms, e)?)
     }
 
-    #[tactic(auto, unfolding(crate::specs::ReadExpressions::part, crate::specs::ReadExpressions::part_end))]
-    fn part(
+    #[tactic(auto, unfolding(luau_grammar::specs::ReadExpressions::part, luau_grammar::specs::ReadExpressions::part_end))]
+    pub fn part(
         &self,
         tokens: &mut Tokens<'_, '_>,
         given: Interpolated,
@@ -124,8 +123,12 @@ impl<
     }
 
     /// The parts of an interpolated string, behind its first text.
-    #[tactic(auto, unfolding(crate::specs::ReadExpressions::parts))]
-    fn parts(&self, tokens: &mut Tokens<'_, '_>, text: Bytes) -> Result<Interpolated, ParseError>
+    #[tactic(auto, unfolding(luau_grammar::specs::ReadExpressions::parts))]
+    pub fn parts(
+        &self,
+        tokens: &mut Tokens<'_, '_>,
+        text: Bytes,
+    ) -> Result<Interpolated, ParseError>
         requires { Nests self.now.text.now self.now.depth (E.pre self.now.exp) (E.post self.now.exp) (T.pre self.now.typ) (T.post self.now.typ) (B.pre self.now.block) (B.post self.now.block) }
         ensures { Reads seen_interpolated (values.parts (strictly self.now.text.now) (readers (strictly self.now.text.now) self.now.depth) text (place_of tokens.old)) result tokens.new }
     {
@@ -141,8 +144,8 @@ impl<
         Ok(given)
     }
 
-    #[tactic(auto, unfolding(crate::specs::ReadExpressions::interpolation))]
-    fn interpolation(&self, tokens: &mut Tokens<'_, '_>, from: u32) -> Result<Expr, ParseError>
+    #[tactic(auto, unfolding(luau_grammar::specs::ReadExpressions::interpolation))]
+    pub fn interpolation(&self, tokens: &mut Tokens<'_, '_>, from: u32) -> Result<Expr, ParseError>
         requires { Nests self.now.text.now self.now.depth (E.pre self.now.exp) (E.post self.now.exp) (T.pre self.now.typ) (T.post self.now.typ) (B.pre self.now.block) (B.post self.now.block) }
         ensures { Reads view_expr (values.interpolation (strictly self.now.text.now) (readers (strictly self.now.text.now) self.now.depth) from (place_of tokens.old)) result tokens.new }
     {
@@ -152,8 +155,8 @@ impl<
         Ok(finished(span, found))
     }
 
-    #[tactic(auto, unfolding(crate::specs::ReadExpressions::whole))]
-    fn whole(&self, tokens: &mut Tokens<'_, '_>, from: u32) -> Result<Expr, ParseError>
+    #[tactic(auto, unfolding(luau_grammar::specs::ReadExpressions::whole))]
+    pub fn whole(&self, tokens: &mut Tokens<'_, '_>, from: u32) -> Result<Expr, ParseError>
         requires { Nests self.now.text.now self.now.depth (E.pre self.now.exp) (E.post self.now.exp) (T.pre self.now.typ) (T.post self.now.typ) (B.pre self.now.block) (B.post self.now.block) }
         ensures { Reads view_expr (values.whole (strictly self.now.text.now) (readers (strictly self.now.text.now) self.now.depth) from (place_of tokens.old)) result tokens.new }
     {
@@ -163,8 +166,8 @@ impl<
         Ok(finished(span, found))
     }
 
-    #[tactic(auto, unfolding(crate::specs::ReadExpressions::word))]
-    fn nil(&self, tokens: &mut Tokens<'_, '_>, from: u32) -> Result<Expr, ParseError>
+    #[tactic(auto, unfolding(luau_grammar::specs::ReadExpressions::word))]
+    pub fn nil(&self, tokens: &mut Tokens<'_, '_>, from: u32) -> Result<Expr, ParseError>
         requires { Nests self.now.text.now self.now.depth (E.pre self.now.exp) (E.post self.now.exp) (T.pre self.now.typ) (T.post self.now.typ) (B.pre self.now.block) (B.post self.now.block) }
         ensures { Reads view_expr (values.word (strictly self.now.text.now) (readers (strictly self.now.text.now) self.now.depth) from tree.NilExpr (place_of tokens.old)) result tokens.new }
     {
@@ -172,8 +175,8 @@ impl<
         Ok(nil_expr(ExprId(0), tokens.span_from(from)))
     }
 
-    #[tactic(auto, unfolding(crate::specs::ReadExpressions::word))]
-    fn truth(&self, tokens: &mut Tokens<'_, '_>, from: u32) -> Result<Expr, ParseError>
+    #[tactic(auto, unfolding(luau_grammar::specs::ReadExpressions::word))]
+    pub fn truth(&self, tokens: &mut Tokens<'_, '_>, from: u32) -> Result<Expr, ParseError>
         requires { Nests self.now.text.now self.now.depth (E.pre self.now.exp) (E.post self.now.exp) (T.pre self.now.typ) (T.post self.now.typ) (B.pre self.now.block) (B.post self.now.block) }
         ensures { Reads view_expr (values.word (strictly self.now.text.now) (readers (strictly self.now.text.now) self.now.depth) from tree.TrueExpr (place_of tokens.old)) result tokens.new }
     {
@@ -181,8 +184,8 @@ impl<
         Ok(true_expr(ExprId(0), tokens.span_from(from)))
     }
 
-    #[tactic(auto, unfolding(crate::specs::ReadExpressions::word))]
-    fn falsehood(&self, tokens: &mut Tokens<'_, '_>, from: u32) -> Result<Expr, ParseError>
+    #[tactic(auto, unfolding(luau_grammar::specs::ReadExpressions::word))]
+    pub fn falsehood(&self, tokens: &mut Tokens<'_, '_>, from: u32) -> Result<Expr, ParseError>
         requires { Nests self.now.text.now self.now.depth (E.pre self.now.exp) (E.post self.now.exp) (T.pre self.now.typ) (T.post self.now.typ) (B.pre self.now.block) (B.post self.now.block) }
         ensures { Reads view_expr (values.word (strictly self.now.text.now) (readers (strictly self.now.text.now) self.now.depth) from tree.FalseExpr (place_of tokens.old)) result tokens.new }
     {
@@ -190,8 +193,8 @@ impl<
         Ok(false_expr(ExprId(0), tokens.span_from(from)))
     }
 
-    #[tactic(auto, unfolding(crate::specs::ReadExpressions::word))]
-    fn vararg(&self, tokens: &mut Tokens<'_, '_>, from: u32) -> Result<Expr, ParseError>
+    #[tactic(auto, unfolding(luau_grammar::specs::ReadExpressions::word))]
+    pub fn vararg(&self, tokens: &mut Tokens<'_, '_>, from: u32) -> Result<Expr, ParseError>
         requires { Nests self.now.text.now self.now.depth (E.pre self.now.exp) (E.post self.now.exp) (T.pre self.now.typ) (T.post self.now.typ) (B.pre self.now.block) (B.post self.now.block) }
         ensures { Reads view_expr (values.word (strictly self.now.text.now) (readers (strictly self.now.text.now) self.now.depth) from tree.Vararg (place_of tokens.old)) result tokens.new }
     {
@@ -199,8 +202,8 @@ impl<
         Ok(vararg_expr(ExprId(0), tokens.span_from(from)))
     }
 
-    #[tactic(auto, unfolding(crate::specs::ReadExpressions::number))]
-    fn number(&self, tokens: &mut Tokens<'_, '_>, from: u32) -> Result<Expr, ParseError>
+    #[tactic(auto, unfolding(luau_grammar::specs::ReadExpressions::number))]
+    pub fn number(&self, tokens: &mut Tokens<'_, '_>, from: u32) -> Result<Expr, ParseError>
         requires { Nests self.now.text.now self.now.depth (E.pre self.now.exp) (E.post self.now.exp) (T.pre self.now.typ) (T.post self.now.typ) (B.pre self.now.block) (B.post self.now.block) }
         ensures { Reads view_expr (values.number (strictly self.now.text.now) (readers (strictly self.now.text.now) self.now.depth) from (place_of tokens.old)) result tokens.new }
     {
@@ -210,8 +213,8 @@ impl<
         Ok(number_expr(ExprId(0), span, written))
     }
 
-    #[tactic(auto, unfolding(crate::specs::ReadExpressions::literal))]
-    fn literal(&self, tokens: &mut Tokens<'_, '_>, from: u32) -> Result<Expr, ParseError>
+    #[tactic(auto, unfolding(luau_grammar::specs::ReadExpressions::literal))]
+    pub fn literal(&self, tokens: &mut Tokens<'_, '_>, from: u32) -> Result<Expr, ParseError>
         requires { Nests self.now.text.now self.now.depth (E.pre self.now.exp) (E.post self.now.exp) (T.pre self.now.typ) (T.post self.now.typ) (B.pre self.now.block) (B.post self.now.block) }
         ensures { Reads view_expr (values.literal (strictly self.now.text.now) (readers (strictly self.now.text.now) self.now.depth) from (place_of tokens.old)) result tokens.new }
     {
@@ -220,8 +223,8 @@ impl<
         Ok(str_expr(ExprId(0), span, value))
     }
 
-    #[tactic(auto, unfolding(crate::specs::ReadExpressions::constructor))]
-    fn constructor(&self, tokens: &mut Tokens<'_, '_>, from: u32) -> Result<Expr, ParseError>
+    #[tactic(auto, unfolding(luau_grammar::specs::ReadExpressions::constructor))]
+    pub fn constructor(&self, tokens: &mut Tokens<'_, '_>, from: u32) -> Result<Expr, ParseError>
         requires { Nests self.now.text.now self.now.depth (E.pre self.now.exp) (E.post self.now.exp) (T.pre self.now.typ) (T.post self.now.typ) (B.pre self.now.block) (B.post self.now.block) }
         ensures { Reads view_expr (values.constructor (strictly self.now.text.now) (readers (strictly self.now.text.now) self.now.depth) from (place_of tokens.old)) result tokens.new }
     {
@@ -229,5 +232,83 @@ impl<
         let fields = self.table(tokens, inside)?;
         let span = tokens.span_from(from);
         Ok(table_expr(ExprId(0), span, fields))
+    }
+
+    #[tactic(auto, unfolding(luau_grammar::specs::ReadExpressions::function))]
+    pub fn function(&self, tokens: &mut Tokens<'_, '_>, from: u32) -> Result<Expr, ParseError>
+        requires { Nests self.now.text.now self.now.depth (E.pre self.now.exp) (E.post self.now.exp) (T.pre self.now.typ) (T.post self.now.typ) (B.pre self.now.block) (B.post self.now.block) }
+        ensures { Reads view_expr (values.function (strictly self.now.text.now) (readers (strictly self.now.text.now) self.now.depth) from (place_of tokens.old)) result tokens.new }
+    {
+        self.attributes(tokens)?;
+        let _word = tokens.expect(self.text, Symbol::Function)?;
+        let body = self.body(tokens, None)?;
+        let span = tokens.span_from(from);
+        Ok(function_expr(self.alloc, ExprId(0), span, body)?)
+    }
+
+    /// An expression that is no prefix, by its first symbol.
+    #[tactic(auto, unfolding(luau_grammar::specs::ReadExpressions::form))]
+    pub fn expression_form(&self, tokens: &mut Tokens<'_, '_>) -> Result<Expr, ParseError>
+        requires { Nests self.now.text.now self.now.depth (E.pre self.now.exp) (E.post self.now.exp) (T.pre self.now.typ) (T.post self.now.typ) (B.pre self.now.block) (B.post self.now.block) }
+        ensures { Reads view_expr (values.form (strictly self.now.text.now) (readers (strictly self.now.text.now) self.now.depth) (place_of tokens.old)) result tokens.new }
+    {
+        let from = tokens.start();
+        match tokens.symbol() {
+            Symbol::Nil => self.nil(tokens, from),
+            Symbol::True => self.truth(tokens, from),
+            Symbol::False => self.falsehood(tokens, from),
+            Symbol::Dots => self.vararg(tokens, from),
+            Symbol::Number => self.number(tokens, from),
+            Symbol::Text => self.literal(tokens, from),
+            Symbol::LeftBrace => self.constructor(tokens, from),
+            Symbol::Function => self.function(tokens, from),
+            Symbol::AtSign => self.function(tokens, from),
+            Symbol::If => self.if_else(tokens, from),
+            Symbol::Whole => self.whole(tokens, from),
+            Symbol::Begin => self.interpolation(tokens, from),
+            _ => Err(tokens.refusal(self.text)),
+        }
+    }
+
+    #[tactic(auto, unfolding(luau_grammar::specs::ReadExpressions::simple))]
+    pub fn simple(&self, tokens: &mut Tokens<'_, '_>) -> Result<Expr, ParseError>
+        requires { Nests self.now.text.now self.now.depth (E.pre self.now.exp) (E.post self.now.exp) (T.pre self.now.typ) (T.post self.now.typ) (B.pre self.now.block) (B.post self.now.block) }
+        ensures { Reads view_expr (values.simple (strictly self.now.text.now) (readers (strictly self.now.text.now) self.now.depth) (place_of tokens.old)) result tokens.new }
+    {
+        if tokens.sees(Symbol::Name) || tokens.sees(Symbol::LeftParen) {
+            self.prefix(tokens)
+        } else {
+            self.expression_form(tokens)
+        }
+    }
+
+    #[tactic(auto, unfolding(luau_grammar::specs::ReadExpressions::asserted))]
+    pub fn asserted(
+        &self,
+        tokens: &mut Tokens<'_, '_>,
+        from: u32,
+        e: Expr,
+    ) -> Result<Expr, ParseError>
+        requires { Nests self.now.text.now self.now.depth (E.pre self.now.exp) (E.post self.now.exp) (T.pre self.now.typ) (T.post self.now.typ) (B.pre self.now.block) (B.post self.now.block) }
+        ensures { Reads view_expr (values.asserted (strictly self.now.text.now) (readers (strictly self.now.text.now) self.now.depth) from (view_expr e) (place_of tokens.old)) result tokens.new }
+    {
+        if !tokens.sees(Symbol::DoubleColon) {
+            return Ok(e);
+        }
+        let _colons = tokens.expect(self.text, Symbol::DoubleColon)?;
+        let t = self.typ(tokens, None)?;
+        let span = tokens.span_from(from);
+        Ok(assert_expr(self.alloc, ExprId(0), span, e, t)?)
+    }
+
+    /// An expression without operators, with the type that it is said to have.
+    #[tactic(auto, unfolding(luau_grammar::specs::ReadExpressions::assertion))]
+    pub fn assertion(&self, tokens: &mut Tokens<'_, '_>) -> Result<Expr, ParseError>
+        requires { Nests self.now.text.now self.now.depth (E.pre self.now.exp) (E.post self.now.exp) (T.pre self.now.typ) (T.post self.now.typ) (B.pre self.now.block) (B.post self.now.block) }
+        ensures { Reads view_expr (values.assertion (strictly self.now.text.now) (readers (strictly self.now.text.now) self.now.depth) (place_of tokens.old)) result tokens.new }
+    {
+        let from = tokens.start();
+        let e = self.simple(tokens)?;
+        self.asserted(tokens, from, e)
     }
 }

@@ -4,14 +4,13 @@ ghost use Rattle.std.specs.Prelude.{◌≡◌, ◌≤◌, length};
 ghost use Rattle.luau_tree.specs.View.{view_block, view_expr, view_type};
 ghost use Rattle.luau_parse.specs.Nests.{Nests};
 ghost use Rattle.luau_parse.specs.Outcomes.{Reads, place_of, maybe_listed};
-ghost use Rattle.luau_parse.specs.Reading.{strictly};
-ghost use Rattle.luau_parse.specs.ReadModules.{readers};
-ghost use Rattle.luau_parse.specs.ReadPhrases as phrases;
+ghost use Rattle.luau_grammar.specs.Reading.{strictly};
+ghost use Rattle.luau_grammar.specs.ReadModules.{readers};
+ghost use Rattle.luau_grammar.specs.ReadPhrases as phrases;
 
-use crate::error::ParseError;
 use crate::listed::Listed;
-use crate::symbol::{begins_block, begins_expression, begins_type};
 use crate::tokens::{MAX_LEVEL, Tokens};
+use luau_grammar::{ParseError, begins_block, begins_expression, begins_type};
 use luau_tree::{Block, Expr, MAX_TEXT, TypeSyntax};
 use std::alloc::Global;
 
@@ -40,7 +39,7 @@ impl<
     B: Fn(Global, &[u8], &mut Tokens<'_, '_>, usize) -> Result<Block, ParseError>,
 > Grammar<'s, E, T, B> {
     /// An expression.
-    #[tactic(auto, unfolding(crate::specs::ReadPhrases::expression, crate::specs::Reading::phrase))]
+    #[tactic(auto, unfolding(luau_grammar::specs::ReadPhrases::expression, luau_grammar::specs::Reading::phrase))]
     pub fn expression(&self, tokens: &mut Tokens<'_, '_>) -> Result<Expr, ParseError>
         requires { Nests self.now.text.now self.now.depth (E.pre self.now.exp) (E.post self.now.exp) (T.pre self.now.typ) (T.post self.now.typ) (B.pre self.now.block) (B.post self.now.block) }
         ensures { Reads view_expr (phrases.expression (strictly self.now.text.now) (readers (strictly self.now.text.now) self.now.depth) (place_of tokens.old)) result tokens.new }
@@ -60,7 +59,7 @@ impl<
     }
 
     /// A type, whose list in parentheses may have been read.
-    #[tactic(auto, unfolding(crate::specs::ReadPhrases::typ, crate::specs::Reading::phrase))]
+    #[tactic(auto, unfolding(luau_grammar::specs::ReadPhrases::typ, luau_grammar::specs::Reading::phrase))]
     pub fn typ(
         &self,
         tokens: &mut Tokens<'_, '_>,
@@ -84,7 +83,7 @@ impl<
     }
 
     /// A block.
-    #[tactic(auto, unfolding(crate::specs::ReadPhrases::block, crate::specs::Reading::phrase))]
+    #[tactic(auto, unfolding(luau_grammar::specs::ReadPhrases::block, luau_grammar::specs::Reading::phrase))]
     pub fn block(&self, tokens: &mut Tokens<'_, '_>) -> Result<Block, ParseError>
         requires { Nests self.now.text.now self.now.depth (E.pre self.now.exp) (E.post self.now.exp) (T.pre self.now.typ) (T.post self.now.typ) (B.pre self.now.block) (B.post self.now.block) }
         ensures { Reads view_block (phrases.block (strictly self.now.text.now) (readers (strictly self.now.text.now) self.now.depth) (place_of tokens.old)) result tokens.new }

@@ -1,14 +1,26 @@
-//! The module grammar: which tree a list of tokens has.
+//! The parser: the syntax tree of a module's text.
 #![tactic(auto)]
 
+mod assignments;
 mod bodies;
-mod error;
+mod branches;
+mod declarations;
 mod expressions;
+mod forms;
+mod generics;
 mod grammar;
 mod interpolated;
+mod kinds;
 mod listed;
+mod members;
+mod module;
+mod operations;
+mod properties;
+mod results;
+mod statements;
 mod suffixes;
-mod symbol;
 mod tokens;
+mod type_fronts;
+mod type_options;
 
-pub use error::ParseError;
+pub use module::parse;

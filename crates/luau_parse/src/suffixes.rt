@@ -1,25 +1,24 @@
 //! Names and expressions in parentheses, with indices, fields and calls behind them; and table constructors.
 ghost use Rattle.std.specs.Prelude.{◌≡◌, ◌&&◌, not, map, IfOk};
 ghost use Rattle.luau_tree.specs.Tree as tree;
-ghost use Rattle.luau_parse.specs.declared.symbol.Symbol.TheVariants as s;
-ghost use Rattle.luau_parse.specs.Places as places;
-ghost use Rattle.luau_parse.specs.Reading as reading;
-ghost use Rattle.luau_parse.specs.ReadTypes as types;
-ghost use Rattle.luau_parse.specs.ReadPhrases as phrases;
+ghost use Rattle.luau_grammar.specs.declared.symbol.Symbol.TheVariants as s;
+ghost use Rattle.luau_grammar.specs.Places as places;
+ghost use Rattle.luau_grammar.specs.Reading as reading;
+ghost use Rattle.luau_grammar.specs.ReadTypes as types;
+ghost use Rattle.luau_grammar.specs.ReadPhrases as phrases;
 ghost use Rattle.luau_parse.specs.Seen.{seen_fields};
 ghost use Rattle.luau_tree.specs.View.{view_expr, view_exprs, view_item, view_items};
 ghost use Rattle.luau_parse.specs.Nests.{Nests};
 ghost use Rattle.luau_parse.specs.Outcomes.{Reads, place_of};
-ghost use Rattle.luau_parse.specs.Reading.{strictly};
-ghost use Rattle.luau_parse.specs.ReadModules.{readers};
-ghost use Rattle.luau_parse.specs.ReadExpressions as values;
+ghost use Rattle.luau_grammar.specs.Reading.{strictly};
+ghost use Rattle.luau_grammar.specs.ReadModules.{readers};
+ghost use Rattle.luau_grammar.specs.ReadExpressions as values;
 
-use crate::error::ParseError;
 use crate::grammar::Grammar;
 use crate::interpolated::one;
 use crate::listed::Listed;
-use crate::symbol::Symbol;
 use crate::tokens::{Tokens, deeper};
+use luau_grammar::{ParseError, Symbol};
 use luau_tree::exprs::{
     at_expr, call_expr, index_expr, method_expr, name_expr, paren_expr, str_expr, table_expr,
 };
@@ -78,7 +77,7 @@ impl<
     }
 
     /// Expressions with commas between them.
-    #[tactic(auto, unfolding(crate::specs::ReadExpressions::expressions, crate::specs::Reading::separated, crate::specs::Reading::separated_from))]
+    #[tactic(auto, unfolding(luau_grammar::specs::ReadExpressions::expressions, luau_grammar::specs::Reading::separated, luau_grammar::specs::Reading::separated_from))]
     pub fn expressions(&self, tokens: &mut Tokens<'_, '_>) -> Result<Items<Expr>, ParseError>
         requires { Nests self.now.text.now self.now.depth (E.pre self.now.exp) (E.post self.now.exp) (T.pre self.now.typ) (T.post self.now.typ) (B.pre self.now.block) (B.post self.now.block) }
         ensures { Reads (map view_expr) (values.expressions (strictly self.now.text.now) (readers (strictly self.now.text.now) self.now.depth) (place_of tokens.old)) result tokens.new }
@@ -96,7 +95,7 @@ impl<
         Ok(found)
     }
 
-    #[tactic(auto, unfolding(crate::specs::ReadExpressions::keyed))]
+    #[tactic(auto, unfolding(luau_grammar::specs::ReadExpressions::keyed))]
     fn keyed(&self, tokens: &mut Tokens<'_, '_>) -> Result<Item, ParseError>
         requires { Nests self.now.text.now self.now.depth (E.pre self.now.exp) (E.post self.now.exp) (T.pre self.now.typ) (T.post self.now.typ) (B.pre self.now.block) (B.post self.now.block) }
         ensures { Reads view_item (values.keyed (strictly self.now.text.now) (readers (strictly self.now.text.now) self.now.depth) (place_of tokens.old)) result tokens.new }
@@ -109,7 +108,7 @@ impl<
         Ok(keyed_item(key, value))
     }
 
-    #[tactic(auto, unfolding(crate::specs::ReadExpressions::field))]
+    #[tactic(auto, unfolding(luau_grammar::specs::ReadExpressions::field))]
     fn field(&self, tokens: &mut Tokens<'_, '_>) -> Result<Item, ParseError>
         requires { Nests self.now.text.now self.now.depth (E.pre self.now.exp) (E.post self.now.exp) (T.pre self.now.typ) (T.post self.now.typ) (B.pre self.now.block) (B.post self.now.block) }
         ensures { Reads view_item (values.field (strictly self.now.text.now) (readers (strictly self.now.text.now) self.now.depth) (place_of tokens.old)) result tokens.new }
@@ -120,7 +119,7 @@ impl<
         Ok(field_item(name, value))
     }
 
-    #[tactic(auto, unfolding(crate::specs::ReadExpressions::item))]
+    #[tactic(auto, unfolding(luau_grammar::specs::ReadExpressions::item))]
     fn item(&self, tokens: &mut Tokens<'_, '_>) -> Result<Item, ParseError>
         requires { Nests self.now.text.now self.now.depth (E.pre self.now.exp) (E.post self.now.exp) (T.pre self.now.typ) (T.post self.now.typ) (B.pre self.now.block) (B.post self.now.block) }
         ensures { Reads view_item (values.item (strictly self.now.text.now) (readers (strictly self.now.text.now) self.now.depth) (place_of tokens.old)) result tokens.new }
@@ -148,7 +147,7 @@ impl<
         Ok(Fields { items, open_ended })
     }
 
-    #[tactic(auto, using(crate::proofs::Lists::items_seen), unfolding(crate::specs::ReadExpressions::fields, crate::specs::ReadTypes::braced))]
+    #[tactic(auto, using(crate::proofs::Lists::items_seen), unfolding(luau_grammar::specs::ReadExpressions::fields, luau_grammar::specs::ReadTypes::braced))]
     fn fields(&self, tokens: &mut Tokens<'_, '_>) -> Result<Items<Item>, ParseError>
         requires { Nests self.now.text.now self.now.depth (E.pre self.now.exp) (E.post self.now.exp) (T.pre self.now.typ) (T.post self.now.typ) (B.pre self.now.block) (B.post self.now.block) }
         ensures { Reads view_items (values.fields (strictly self.now.text.now) (readers (strictly self.now.text.now) self.now.depth) (place_of tokens.old)) result tokens.new }
@@ -169,7 +168,7 @@ impl<
     }
 
     /// A table constructor, whose inside stands at a level.
-    #[tactic(auto, unfolding(crate::specs::ReadExpressions::table))]
+    #[tactic(auto, unfolding(luau_grammar::specs::ReadExpressions::table))]
     pub fn table(&self, tokens: &mut Tokens<'_, '_>, inside: u32) -> Result<Items<Item>, ParseError>
         requires { Nests self.now.text.now self.now.depth (E.pre self.now.exp) (E.post self.now.exp) (T.pre self.now.typ) (T.post self.now.typ) (B.pre self.now.block) (B.post self.now.block) }
         ensures { Reads view_items (values.table (strictly self.now.text.now) (readers (strictly self.now.text.now) self.now.depth) inside (place_of tokens.old)) result tokens.new }
@@ -181,7 +180,7 @@ impl<
         Ok(found)
     }
 
-    #[tactic(auto, using(crate::proofs::Lists::exprs_seen), unfolding(crate::specs::ReadExpressions::in_parens))]
+    #[tactic(auto, using(crate::proofs::Lists::exprs_seen), unfolding(luau_grammar::specs::ReadExpressions::in_parens))]
     fn in_parens(&self, tokens: &mut Tokens<'_, '_>) -> Result<Items<Expr>, ParseError>
         requires { Nests self.now.text.now self.now.depth (E.pre self.now.exp) (E.post self.now.exp) (T.pre self.now.typ) (T.post self.now.typ) (B.pre self.now.block) (B.post self.now.block) }
         ensures { Reads view_exprs (values.in_parens (strictly self.now.text.now) (readers (strictly self.now.text.now) self.now.depth) (place_of tokens.old)) result tokens.new }
@@ -192,7 +191,7 @@ impl<
         self.expressions(tokens)
     }
 
-    #[tactic(auto, unfolding(crate::specs::ReadExpressions::list_arguments))]
+    #[tactic(auto, unfolding(luau_grammar::specs::ReadExpressions::list_arguments))]
     fn list_arguments(
         &self,
         tokens: &mut Tokens<'_, '_>,
@@ -208,7 +207,7 @@ impl<
         Ok(args)
     }
 
-    #[tactic(auto, unfolding(crate::specs::ReadExpressions::table_argument))]
+    #[tactic(auto, unfolding(luau_grammar::specs::ReadExpressions::table_argument))]
     fn table_argument(
         &self,
         tokens: &mut Tokens<'_, '_>,
@@ -224,7 +223,7 @@ impl<
         Ok(args)
     }
 
-    #[tactic(auto, unfolding(crate::specs::ReadExpressions::string_argument))]
+    #[tactic(auto, unfolding(luau_grammar::specs::ReadExpressions::string_argument))]
     fn string_argument(
         &self,
         tokens: &mut Tokens<'_, '_>,
@@ -242,7 +241,7 @@ impl<
     }
 
     /// The arguments of a call, whose inside stands at a level.
-    #[tactic(auto, unfolding(crate::specs::ReadExpressions::arguments))]
+    #[tactic(auto, unfolding(luau_grammar::specs::ReadExpressions::arguments))]
     fn arguments(&self, tokens: &mut Tokens<'_, '_>, inside: u32) -> Result<Items<Expr>, ParseError>
         requires { Nests self.now.text.now self.now.depth (E.pre self.now.exp) (E.post self.now.exp) (T.pre self.now.typ) (T.post self.now.typ) (B.pre self.now.block) (B.post self.now.block) }
         ensures { Reads view_exprs (values.arguments (strictly self.now.text.now) (readers (strictly self.now.text.now) self.now.depth) inside (place_of tokens.old)) result tokens.new }
@@ -256,7 +255,7 @@ impl<
         }
     }
 
-    #[tactic(auto, unfolding(crate::specs::ReadExpressions::paren))]
+    #[tactic(auto, unfolding(luau_grammar::specs::ReadExpressions::paren))]
     fn paren(&self, tokens: &mut Tokens<'_, '_>) -> Result<Expr, ParseError>
         requires { Nests self.now.text.now self.now.depth (E.pre self.now.exp) (E.post self.now.exp) (T.pre self.now.typ) (T.post self.now.typ) (B.pre self.now.block) (B.post self.now.block) }
         ensures { Reads view_expr (values.paren (strictly self.now.text.now) (readers (strictly self.now.text.now) self.now.depth) (place_of tokens.old)) result tokens.new }
@@ -270,7 +269,7 @@ impl<
     }
 
     /// A name.
-    #[tactic(auto, unfolding(crate::specs::ReadExpressions::name_expression))]
+    #[tactic(auto, unfolding(luau_grammar::specs::ReadExpressions::name_expression))]
     pub fn name_expression(&self, tokens: &mut Tokens<'_, '_>) -> Result<Expr, ParseError>
         requires { Nests self.now.text.now self.now.depth (E.pre self.now.exp) (E.post self.now.exp) (T.pre self.now.typ) (T.post self.now.typ) (B.pre self.now.block) (B.post self.now.block) }
         ensures { Reads view_expr (values.name_expression (strictly self.now.text.now) (readers (strictly self.now.text.now) self.now.depth) (place_of tokens.old)) result tokens.new }
@@ -281,7 +280,7 @@ impl<
         Ok(name_expr(ExprId(0), span, name))
     }
 
-    #[tactic(auto, unfolding(crate::specs::ReadExpressions::primary))]
+    #[tactic(auto, unfolding(luau_grammar::specs::ReadExpressions::primary))]
     fn primary(&self, tokens: &mut Tokens<'_, '_>) -> Result<Expr, ParseError>
         requires { Nests self.now.text.now self.now.depth (E.pre self.now.exp) (E.post self.now.exp) (T.pre self.now.typ) (T.post self.now.typ) (B.pre self.now.block) (B.post self.now.block) }
         ensures { Reads view_expr (values.primary (strictly self.now.text.now) (readers (strictly self.now.text.now) self.now.depth) (place_of tokens.old)) result tokens.new }
@@ -294,7 +293,7 @@ impl<
     }
 
     /// `.NAME`, behind what begins at an offset.
-    #[tactic(auto, unfolding(crate::specs::ReadExpressions::index))]
+    #[tactic(auto, unfolding(luau_grammar::specs::ReadExpressions::index))]
     pub fn index(
         &self,
         tokens: &mut Tokens<'_, '_>,
@@ -311,7 +310,7 @@ impl<
         Ok(index_expr(self.alloc, ExprId(0), span, base, name)?)
     }
 
-    #[tactic(auto, unfolding(crate::specs::ReadExpressions::at))]
+    #[tactic(auto, unfolding(luau_grammar::specs::ReadExpressions::at))]
     fn at(&self, tokens: &mut Tokens<'_, '_>, from: u32, base: Expr) -> Result<Expr, ParseError>
         requires { Nests self.now.text.now self.now.depth (E.pre self.now.exp) (E.post self.now.exp) (T.pre self.now.typ) (T.post self.now.typ) (B.pre self.now.block) (B.post self.now.block) }
         ensures { Reads view_expr (values.at (strictly self.now.text.now) (readers (strictly self.now.text.now) self.now.depth) from (view_expr base) (place_of tokens.old)) result tokens.new }
@@ -324,7 +323,7 @@ impl<
         Ok(at_expr(self.alloc, ExprId(0), span, base, key)?)
     }
 
-    #[tactic(auto, unfolding(crate::specs::ReadExpressions::method))]
+    #[tactic(auto, unfolding(luau_grammar::specs::ReadExpressions::method))]
     fn method(&self, tokens: &mut Tokens<'_, '_>, from: u32, base: Expr) -> Result<Expr, ParseError>
         requires { Nests self.now.text.now self.now.depth (E.pre self.now.exp) (E.post self.now.exp) (T.pre self.now.typ) (T.post self.now.typ) (B.pre self.now.block) (B.post self.now.block) }
         ensures { Reads view_expr (values.method (strictly self.now.text.now) (readers (strictly self.now.text.now) self.now.depth) from (view_expr base) (place_of tokens.old)) result tokens.new }
@@ -340,7 +339,7 @@ impl<
         Ok(method_expr(self.alloc, ExprId(0), span, base, name, name_span, args)?)
     }
 
-    #[tactic(auto, unfolding(crate::specs::ReadExpressions::call))]
+    #[tactic(auto, unfolding(luau_grammar::specs::ReadExpressions::call))]
     fn call(&self, tokens: &mut Tokens<'_, '_>, from: u32, callee: Expr) -> Result<Expr, ParseError>
         requires { Nests self.now.text.now self.now.depth (E.pre self.now.exp) (E.post self.now.exp) (T.pre self.now.typ) (T.post self.now.typ) (B.pre self.now.block) (B.post self.now.block) }
         ensures { Reads view_expr (values.call (strictly self.now.text.now) (readers (strictly self.now.text.now) self.now.depth) from (view_expr callee) (place_of tokens.old)) result tokens.new }
@@ -351,7 +350,7 @@ impl<
         Ok(call_expr(self.alloc, ExprId(0), span, callee, args)?)
     }
 
-    #[tactic(auto, unfolding(crate::specs::ReadExpressions::suffix))]
+    #[tactic(auto, unfolding(luau_grammar::specs::ReadExpressions::suffix))]
     fn suffix(&self, tokens: &mut Tokens<'_, '_>, from: u32, base: Expr) -> Result<Expr, ParseError>
         requires { Nests self.now.text.now self.now.depth (E.pre self.now.exp) (E.post self.now.exp) (T.pre self.now.typ) (T.post self.now.typ) (B.pre self.now.block) (B.post self.now.block) }
         ensures { Reads view_expr (values.suffix (strictly self.now.text.now) (readers (strictly self.now.text.now) self.now.depth) from (view_expr base) (place_of tokens.old)) result tokens.new }
@@ -368,7 +367,7 @@ impl<
     }
 
     /// A name or an expression in parentheses, with indices, fields and calls behind it.
-    #[tactic(auto, unfolding(crate::specs::ReadExpressions::prefix))]
+    #[tactic(auto, unfolding(luau_grammar::specs::ReadExpressions::prefix))]
     pub fn prefix(&self, tokens: &mut Tokens<'_, '_>) -> Result<Expr, ParseError>
         requires { Nests self.now.text.now self.now.depth (E.pre self.now.exp) (E.post self.now.exp) (T.pre self.now.typ) (T.post self.now.typ) (B.pre self.now.block) (B.post self.now.block) }
         ensures { Reads view_expr (values.prefix (strictly self.now.text.now) (readers (strictly self.now.text.now) self.now.depth) (place_of tokens.old)) result tokens.new }

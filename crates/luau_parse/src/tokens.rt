@@ -1,16 +1,16 @@
 ghost use Rattle.std.specs.Prelude.{◌≡◌, ◌≤◌, ◌<◌, ◌==◌, length, map, take, drop, IfOk};
 ghost use Rattle.std.specs.List.{list_any};
 ghost use Rattle.luau_lex.specs.Tokens.{seen_token};
-ghost use Rattle.luau_parse.specs.Places as places;
-ghost use Rattle.luau_parse.specs.Modules.{on_one_line, before, max_level};
-ghost use Rattle.luau_parse.specs.Expressions as expressions;
-ghost use Rattle.luau_parse.specs.ReadTypes as types;
-ghost use Rattle.luau_parse.specs.Reading as reading;
-ghost use Rattle.luau_parse.specs.Reading.{strictly, ◌>>◌, pure};
+ghost use Rattle.luau_grammar.specs.Places as places;
+ghost use Rattle.luau_grammar.specs.Modules.{on_one_line, before, max_level};
+ghost use Rattle.luau_grammar.specs.Expressions as expressions;
+ghost use Rattle.luau_grammar.specs.Statements as statements;
+ghost use Rattle.luau_grammar.specs.ReadTypes as types;
+ghost use Rattle.luau_grammar.specs.Reading as reading;
+ghost use Rattle.luau_grammar.specs.Reading.{strictly, ◌>>◌, pure};
 ghost use Rattle.luau_parse.specs.Outcomes.{Reads, place_of, itself};
 
-use crate::error::ParseError;
-use crate::symbol::{Symbol, same, symbol_of};
+use luau_grammar::{ParseError, Symbol, closes, same, symbol_of};
 use luau_lex::{Token, value_of};
 use luau_tree::{Bytes, MAX_TEXT, Span};
 use std::alloc::{AllocError, Global};
@@ -27,7 +27,7 @@ pub struct Tokens<'t, 's> {
 }
 
 /// One level deeper, where anything may be opened.
-#[tactic(auto, unfolding(crate::specs::Reading::deeper))]
+#[tactic(auto, unfolding(luau_grammar::specs::Reading::deeper))]
 pub fn deeper(level: u32) -> u32
     ensures { result ≡ reading.deeper max_level level }
 {
@@ -75,7 +75,7 @@ impl<'t, 's> Tokens<'t, 's> {
     }
 
     /// The symbol of the next token.
-    #[tactic(auto, unfolding(crate::specs::Places::symbol))]
+    #[tactic(auto, unfolding(luau_grammar::specs::Places::symbol))]
     pub fn symbol(&self) -> Symbol
         ensures { result ≡ places.symbol (place_of self.now) }
     {
@@ -86,7 +86,7 @@ impl<'t, 's> Tokens<'t, 's> {
     }
 
     /// The symbol of the token behind the next.
-    #[tactic(auto, unfolding(crate::specs::Places::symbol_behind))]
+    #[tactic(auto, unfolding(luau_grammar::specs::Places::symbol_behind))]
     pub fn symbol_behind(&self) -> Symbol
         ensures { result ≡ places.symbol_behind (place_of self.now) }
     {
@@ -96,14 +96,14 @@ impl<'t, 's> Tokens<'t, 's> {
         }
     }
 
-    #[tactic(auto, unfolding(crate::specs::Places::sees))]
+    #[tactic(auto, unfolding(luau_grammar::specs::Places::sees))]
     pub fn sees(&self, symbol: Symbol) -> bool
         ensures { result ≡ places.sees symbol (place_of self.now) }
     {
         same(self.symbol(), symbol)
     }
 
-    #[tactic(auto, unfolding(crate::specs::Places::sees_behind))]
+    #[tactic(auto, unfolding(luau_grammar::specs::Places::sees_behind))]
     pub fn sees_behind(&self, symbol: Symbol) -> bool
         ensures { result ≡ places.sees_behind symbol (place_of self.now) }
     {
@@ -133,15 +133,49 @@ impl<'t, 's> Tokens<'t, 's> {
     }
 
     /// Whether the next token is this name, which is a word where the grammar has it.
-    #[tactic(auto, unfolding(crate::specs::Places::sees_word))]
+    #[tactic(auto, unfolding(luau_grammar::specs::Places::sees_word))]
     pub fn sees_word(&self, word: &[u8]) -> bool
         ensures { result ≡ places.sees_word word.now (place_of self.now) }
     {
         self.sees(Symbol::Name) && self.bytes() == word
     }
 
+    /// The bytes of the token behind the next.
+    fn bytes_behind(&self) -> &[u8]
+        ensures { result.now ≡ statements.second_bytes (place_of self.now).ahead }
+    {
+        match self.ahead {
+            [_, token, ..] => token.text,
+            _ => &[],
+        }
+    }
+
+    /// Whether the next token is the word `continue`, and not a name.
+    pub fn sees_continue(&self) -> bool
+        ensures { result ≡ statements.sees_continue (place_of self.now) }
+    {
+        self.sees_word(b"continue") && closes(self.symbol_behind())
+    }
+
+    /// Whether the next token is the word `type`, and not a name.
+    pub fn sees_type(&self) -> bool
+        ensures { result ≡ statements.sees_type (place_of self.now) }
+    {
+        self.sees_word(b"type")
+            && (self.sees_behind(Symbol::Name) || self.sees_behind(Symbol::Function))
+    }
+
+    /// Whether the next token is the word `export`, and not a name.
+    pub fn sees_export(&self) -> bool
+        ensures { result ≡ statements.sees_export (place_of self.now) }
+    {
+        self.sees_word(b"export")
+            && self.sees_behind(Symbol::Name)
+            && self.bytes_behind() == b"type".as_slice()
+    }
+
     /// Where the next token begins.
-    #[tactic(auto, unfolding(crate::specs::Places::start_of))]
+    #[tactic(auto, unfolding(luau_grammar::specs::Places::start_of))]
     pub fn start(&self) -> u32
         ensures { result ≡ places.start_of (place_of self.now) }
     {
@@ -188,7 +222,7 @@ impl<'t, 's> Tokens<'t, 's> {
     }
 
     /// Nothing reads the next token.
-    #[tactic(auto, unfolding(crate::specs::Reading::refusal))]
+    #[tactic(auto, unfolding(luau_grammar::specs::Reading::refusal))]
     pub fn refusal(&self, text: &[u8]) -> ParseError
         requires { length text.now ≤ MAX_TEXT }
         ensures { result ≡ reading.refusal (strictly text.now) (place_of self.now) }
@@ -200,7 +234,7 @@ impl<'t, 's> Tokens<'t, 's> {
     }
 
     /// The next token stands too deep.
-    #[tactic(auto, unfolding(crate::specs::Reading::deep_refusal))]
+    #[tactic(auto, unfolding(luau_grammar::specs::Reading::deep_refusal))]
     pub fn deep_refusal(&self, text: &[u8]) -> ParseError
         requires { length text.now ≤ MAX_TEXT }
         ensures { result ≡ reading.deep_refusal (strictly text.now) (place_of self.now) }
@@ -212,7 +246,7 @@ impl<'t, 's> Tokens<'t, 's> {
     }
 
     /// Takes the next token.
-    #[tactic(auto, unfolding(crate::specs::Reading::next))]
+    #[tactic(auto, unfolding(luau_grammar::specs::Reading::next))]
     pub fn next(&mut self, text: &[u8]) -> Result<Token<'s>, ParseError>
         requires { length text.now ≤ MAX_TEXT }
         ensures { Reads seen_token (reading.next (strictly text.now) (place_of self.old)) result self.new }
@@ -230,7 +264,7 @@ impl<'t, 's> Tokens<'t, 's> {
     }
 
     /// Takes the next token, which is to be this symbol.
-    #[tactic(auto, unfolding(crate::specs::Reading::expect))]
+    #[tactic(auto, unfolding(luau_grammar::specs::Reading::expect))]
     pub fn expect(&mut self, text: &[u8], symbol: Symbol) -> Result<Token<'s>, ParseError>
         requires { length text.now ≤ MAX_TEXT }
         ensures { Reads seen_token (reading.expect (strictly text.now) symbol (place_of self.old)) result self.new }
@@ -243,7 +277,7 @@ impl<'t, 's> Tokens<'t, 's> {
     }
 
     /// Takes the next token where it is this symbol, and whether it was.
-    #[tactic(auto, unfolding(crate::specs::Reading::eat))]
+    #[tactic(auto, unfolding(luau_grammar::specs::Reading::eat))]
     pub fn eat(&mut self, text: &[u8], symbol: Symbol) -> Result<bool, ParseError>
         requires { length text.now ≤ MAX_TEXT }
         ensures { Reads itself (reading.eat (strictly text.now) symbol (place_of self.old)) result self.new }
@@ -256,7 +290,7 @@ impl<'t, 's> Tokens<'t, 's> {
     }
 
     /// Takes a `,` or a `;`, and whether one stands there.
-    #[tactic(auto, unfolding(crate::specs::ReadTypes::separator))]
+    #[tactic(auto, unfolding(luau_grammar::specs::ReadTypes::separator))]
     pub fn separator(&mut self, text: &[u8]) -> Result<bool, ParseError>
         requires { length text.now ≤ MAX_TEXT }
         ensures { Reads itself (types.separator (strictly text.now) (place_of self.old)) result self.new }
@@ -269,7 +303,7 @@ impl<'t, 's> Tokens<'t, 's> {
     }
 
     /// Takes a name.
-    #[tactic(auto, unfolding(crate::specs::Reading::name))]
+    #[tactic(auto, unfolding(luau_grammar::specs::Reading::name))]
     pub fn name(&mut self, alloc: Global, text: &[u8]) -> Result<Bytes, ParseError>
         requires { length text.now ≤ MAX_TEXT }
         ensures { Reads itself (reading.name (strictly text.now) (place_of self.old)) result self.new }
@@ -279,7 +313,7 @@ impl<'t, 's> Tokens<'t, 's> {
     }
 
     /// Takes a string token, or a part of an interpolated string, and gives the bytes that it stands for.
-    #[tactic(auto, unfolding(crate::specs::Reading::string))]
+    #[tactic(auto, unfolding(luau_grammar::specs::Reading::string))]
     pub fn string(
         &mut self,
         alloc: Global,
@@ -294,7 +328,7 @@ impl<'t, 's> Tokens<'t, 's> {
     }
 
     /// Takes the parenthesis that begins arguments.
-    #[tactic(auto, unfolding(crate::specs::Reading::open_arguments, crate::specs::Reading::refusal, crate::specs::Places::sees, crate::specs::Places::symbol))]
+    #[tactic(auto, unfolding(luau_grammar::specs::Reading::open_arguments, luau_grammar::specs::Reading::refusal, luau_grammar::specs::Places::sees, luau_grammar::specs::Places::symbol))]
     pub fn open_arguments(&mut self, text: &[u8]) -> Result<(), ParseError>
         requires { length text.now ≤ MAX_TEXT }
         ensures { Reads itself (reading.open_arguments (strictly text.now) (place_of self.old)) result self.new }
@@ -314,7 +348,7 @@ impl<'t, 's> Tokens<'t, 's> {
     }
 
     /// Goes one level deeper.
-    #[tactic(auto, unfolding(crate::specs::Reading::raise))]
+    #[tactic(auto, unfolding(luau_grammar::specs::Reading::raise))]
     pub fn raise(&mut self, text: &[u8]) -> Result<(), ParseError>
         requires { length text.now ≤ MAX_TEXT }
         ensures { Reads itself (reading.raise (strictly text.now) (place_of self.old)) result self.new }

@@ -1,11 +1,11 @@
 use Rattle.std.specs.Prelude.{List, map}
 use Rattle.luau_tree.specs.Tree.{Expr, Choices}
 use Rattle.luau_tree.specs.View.{choices, view_choice}
-use Rattle.luau_parse.specs.declared.symbol.Symbol.TheVariants as s
-use Rattle.luau_parse.specs.Places.{sees}
-use Rattle.luau_parse.specs.ReadExpressions.{another_choice, all_choices}
-use Rattle.luau_parse.specs.Reading.{strictly, pure}
-use Rattle.luau_parse.specs.ReadModules.{readers}
+use Rattle.luau_grammar.specs.declared.symbol.Symbol.TheVariants as s
+use Rattle.luau_grammar.specs.Places.{sees}
+use Rattle.luau_grammar.specs.ReadExpressions.{another_choice, all_choices}
+use Rattle.luau_grammar.specs.Reading.{strictly, pure}
+use Rattle.luau_grammar.specs.ReadModules.{readers}
 use Rattle.luau_parse.specs.Outcomes.{place_of}
 use Rattle.luau_parse.proofs.Repeats.{Remains}
 use Rattle.luau_parse.proofs.grammar.Grammar.all_choices.Given as goal

@@ -1,7 +1,7 @@
 use Rattle.std.proofs.Common.{rules, arith, ◌≡◌, sym, ◌∙◌, ap, refl}
 use Rattle.std.proofs.lemmas.Result.{err_from_is_err_and}
 use Rattle.std.specs.Prelude.{Err, length}
-use Rattle.luau_parse.specs.ReadExpressions.{attributes}
+use Rattle.luau_grammar.specs.ReadExpressions.{attributes}
 use Rattle.luau_parse.proofs.Repeats.{begins, stops, refuses, goes_on, fails}
 use Rattle.luau_parse.proofs.grammar.Grammar.attributes.Goals as goal
 

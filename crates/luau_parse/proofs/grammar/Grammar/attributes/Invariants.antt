@@ -1,8 +1,8 @@
-use Rattle.luau_parse.specs.declared.symbol.Symbol.TheVariants as s
-use Rattle.luau_parse.specs.Places.{sees}
-use Rattle.luau_parse.specs.Reading.{strictly, pure}
-use Rattle.luau_parse.specs.ReadExpressions.{attribute, attributes}
-use Rattle.luau_parse.specs.ReadModules.{readers}
+use Rattle.luau_grammar.specs.declared.symbol.Symbol.TheVariants as s
+use Rattle.luau_grammar.specs.Places.{sees}
+use Rattle.luau_grammar.specs.Reading.{strictly, pure}
+use Rattle.luau_grammar.specs.ReadExpressions.{attribute, attributes}
+use Rattle.luau_grammar.specs.ReadModules.{readers}
 use Rattle.luau_parse.specs.Outcomes.{place_of}
 use Rattle.luau_parse.proofs.Repeats.{Remains}
 use Rattle.luau_parse.proofs.grammar.Grammar.attributes.Given as goal

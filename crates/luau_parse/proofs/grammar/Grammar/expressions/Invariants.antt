@@ -1,13 +1,13 @@
 use Rattle.std.specs.Prelude.{List, map}
 use Rattle.luau_tree.specs.Tree.{Expr}
 use Rattle.luau_tree.specs.View.{view_expr}
-use Rattle.luau_parse.specs.declared.symbol.Symbol.TheVariants as s
-use Rattle.luau_parse.specs.Places.{sees}
-use Rattle.luau_parse.specs.Reading.{another}
-use Rattle.luau_parse.specs.ReadPhrases.{expression}
-use Rattle.luau_parse.specs.ReadExpressions.{expressions}
-use Rattle.luau_parse.specs.Reading.{strictly, pure}
-use Rattle.luau_parse.specs.ReadModules.{readers}
+use Rattle.luau_grammar.specs.declared.symbol.Symbol.TheVariants as s
+use Rattle.luau_grammar.specs.Places.{sees}
+use Rattle.luau_grammar.specs.Reading.{another}
+use Rattle.luau_grammar.specs.ReadPhrases.{expression}
+use Rattle.luau_grammar.specs.ReadExpressions.{expressions}
+use Rattle.luau_grammar.specs.Reading.{strictly, pure}
+use Rattle.luau_grammar.specs.ReadModules.{readers}
 use Rattle.luau_parse.specs.Outcomes.{place_of}
 use Rattle.luau_parse.proofs.Repeats.{Remains}
 use Rattle.luau_parse.proofs.grammar.Grammar.expressions.Given as goal

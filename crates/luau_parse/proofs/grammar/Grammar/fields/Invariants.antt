@@ -1,13 +1,13 @@
 use Rattle.luau_tree.specs.Tree.{Item, Items}
 use Rattle.luau_tree.specs.View.{items}
 use Rattle.luau_parse.specs.Seen.{seen_fields}
-use Rattle.luau_parse.specs.ReadTypes.{Braced, one_braced}
+use Rattle.luau_grammar.specs.ReadTypes.{Braced, one_braced}
 use Rattle.std.specs.Prelude.{◌&&◌, not}
-use Rattle.luau_parse.specs.declared.symbol.Symbol.TheVariants as s
-use Rattle.luau_parse.specs.Places.{sees}
-use Rattle.luau_parse.specs.ReadExpressions.{fields, item}
-use Rattle.luau_parse.specs.Reading.{strictly, pure}
-use Rattle.luau_parse.specs.ReadModules.{readers}
+use Rattle.luau_grammar.specs.declared.symbol.Symbol.TheVariants as s
+use Rattle.luau_grammar.specs.Places.{sees}
+use Rattle.luau_grammar.specs.ReadExpressions.{fields, item}
+use Rattle.luau_grammar.specs.Reading.{strictly, pure}
+use Rattle.luau_grammar.specs.ReadModules.{readers}
 use Rattle.luau_parse.specs.Outcomes.{place_of}
 use Rattle.luau_parse.proofs.Repeats.{Remains}
 use Rattle.luau_parse.proofs.grammar.Grammar.fields.Given as goal

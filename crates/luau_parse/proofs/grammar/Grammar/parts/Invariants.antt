@@ -1,7 +1,7 @@
 use Rattle.luau_parse.specs.Seen.{seen_interpolated}
-use Rattle.luau_parse.specs.ReadExpressions.{Interpolated, part, parts}
-use Rattle.luau_parse.specs.Reading.{strictly, pure}
-use Rattle.luau_parse.specs.ReadModules.{readers}
+use Rattle.luau_grammar.specs.ReadExpressions.{Interpolated, part, parts}
+use Rattle.luau_grammar.specs.Reading.{strictly, pure}
+use Rattle.luau_grammar.specs.ReadModules.{readers}
 use Rattle.luau_parse.specs.Outcomes.{place_of}
 use Rattle.luau_parse.proofs.Repeats.{Remains}
 use Rattle.luau_parse.proofs.grammar.Grammar.parts.Given as goal

@@ -1,9 +1,9 @@
 use Rattle.luau_tree.specs.Tree.{Expr}
 use Rattle.luau_tree.specs.View.{view_expr}
-use Rattle.luau_parse.specs.Expressions.{begins_suffix}
-use Rattle.luau_parse.specs.ReadExpressions.{prefix, suffix}
-use Rattle.luau_parse.specs.Reading.{strictly, pure}
-use Rattle.luau_parse.specs.ReadModules.{readers}
+use Rattle.luau_grammar.specs.Expressions.{begins_suffix}
+use Rattle.luau_grammar.specs.ReadExpressions.{prefix, suffix}
+use Rattle.luau_grammar.specs.Reading.{strictly, pure}
+use Rattle.luau_grammar.specs.ReadModules.{readers}
 use Rattle.luau_parse.specs.Outcomes.{place_of}
 use Rattle.luau_parse.proofs.Repeats.{Remains}
 use Rattle.luau_parse.proofs.grammar.Grammar.prefix.Given as goal

@@ -1,0 +1,15 @@
+pub mod Symbols
+pub mod Places
+pub mod Operators
+pub mod Phrases
+pub mod Lists
+pub mod Types
+pub mod Expressions
+pub mod Statements
+pub mod Modules
+pub mod Reading
+pub mod ReadPhrases
+pub mod ReadTypes
+pub mod ReadExpressions
+pub mod ReadStatements
+pub mod ReadModules

@@ -1,7 +1,0 @@
-use Rattle.std.proofs.Common.{rules}
-use Rattle.luau_parse.specs.Symbols.{same}
-use Rattle.luau_parse.proofs.symbol.same.Goals as goal
-
-pub returns : goal.returns
-unfolding same
-returns c = search rules
