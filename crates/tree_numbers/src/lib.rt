@@ -1,0 +1,2 @@
+//! The numbers of a tree's expressions and bodies.
+#![tactic(auto)]
