@@ -46,7 +46,7 @@ fn is_abs(e: &Expr) -> bool
     ensures { result ≡ is_some (form.library_in (view_expr e.now)) }
 {
     match &e.kind {
-        ExprKind::Index { base, name } => is_name(b"math", base.get()) && name.as_slice() == b"abs",
+        ExprKind::Index { base, name } => is_name(b"math", base.get()) && name.as_slice() == b"abs".as_slice(),
         _ => false,
     }
 }
