@@ -1,1 +1,15 @@
 pub mod Agreement
+pub mod SoundSteps
+pub mod CompleteSteps
+pub mod Begins
+pub mod Depth
+pub mod OneTree
+pub mod StatementParts
+pub mod SoundItems
+pub mod SoundStatements
+pub mod SoundNamed
+pub mod SoundBlocks
+pub mod CompleteItems
+pub mod CompleteStatements
+pub mod CompleteNamed
+pub mod CompleteBlocks
