@@ -1,2 +1,4 @@
 pub mod Agreement
 pub mod Primitives
+pub mod SoundLists
+pub mod CompleteLists

@@ -1,16 +1,13 @@
 -- The parsers of single tokens against the grammar, and how the proofs of longer parsers are put together.
-use Rattle.std.proofs.Common.{◌≡◌, ℕ, suc, ◌+◌, ◌≤◌, ◌<◌, Bool, true, false, List, [], ◌∷◌, length, refl, sym, ◌∙◌, ap, subst, arith, if◌then◌else◌, nat_le, leb-true, le-leb}
+use Rattle.std.proofs.Common.{◌≡◌, ℕ, suc, ◌+◌, ◌≤◌, Bool, true, false, List, [], ◌∷◌, length, refl, sym, ◌∙◌, ap, subst, arith, if◌then◌else◌, nat_le, leb-true, le-leb}
 use Rattle.std.proofs.lemmas.Bool.{and_parts, and_from, and_left, and_right}
 use Rattle.std.proofs.lemmas.Slice.Eq.{bytes_eq-Decides}
-use Rattle.std.specs.Prelude.{Result, Ok, Err}
+use Rattle.std.specs.Prelude.{Ok, Err}
 use Rattle.std.specs.Str.{bytes_eq}
 use denote.Enum.Bare.{same_true, true_same}
-use Rattle.luau_tree.specs.declared.position.Span.{Span}
 use Rattle.luau_lex.specs.Tokens.{Tok}
-use Rattle.luau_lex.specs.Values.{string_value}
 use Rattle.luau_grammar.specs.contracts.symbol.Symbol.{the_type}
 use Rattle.luau_grammar.specs.declared.error.ParseError.{ParseError}
-use Rattle.luau_grammar.specs.declared.error.ParseError.TheVariants.{Nesting}
 use Rattle.luau_grammar.specs.declared.symbol.Symbol.{Symbol}
 use Rattle.luau_grammar.specs.declared.symbol.Symbol.TheVariants as s
 use Rattle.luau_grammar.specs.Symbols.{same, symbol_of}
@@ -203,7 +200,7 @@ module _ (rules : Rules) (p q : Place) where
   unfolding sees_word
   word_sees word n =
       and_from (sees s.Name p) (bytes_eq (first_bytes p.ahead) word) (takes_sees s.Name (name_token word n))
-        ((bytes_eq-Decides (first_bytes p.ahead) word).1 (name_bytes word n))
+      ((bytes_eq-Decides (first_bytes p.ahead) word).1 (name_bytes word n))
 
   pub word_not : (word other : List ℕ) → bytes_eq word other ≡ false → TakesName rules p q word → sees_word other p ≡ false
   unfolding sees_word
@@ -240,16 +237,17 @@ module _ (set : Setting) where
   next_stands t ts last level h = rw h refl
 
   pub next_complete : (low : ℕ) → Complete low (IsNext set.rules) (next set)
-  next_complete low p q t h n =
-      (next_by p (t ∷ n.0) n.1 ∙ (next_stands t n.0 p.last p.level n.2 ∙ ap (λ z. Ok (t, z)) (sym n.3)),
-        taken_reached (next_taken set.rules p q t n) h)
+  next_complete low p q t h n = (
+    next_by p (t ∷ n.0) n.1 ∙ (next_stands t n.0 p.last p.level n.2 ∙ ap (λ z. Ok (t, z)) (sym n.3)),
+    taken_reached (next_taken set.rules p q t n) h,
+  )
 
   pub expect_token_sound : (x : Symbol) → Sound (TakesToken set.rules x) (expect set x)
   unfolding expect
   expect_token_sound x p =
       reads_if (sees x p)
-        (λ h. reads_weaker (next_sound p) (λ q t n. (sym (next_symbol set.rules p q t n) ∙ sees_symbol x p h, n)))
-        (λ h. reads_err _)
+      (λ h. reads_weaker (next_sound p) (λ q t n. (sym (next_symbol set.rules p q t n) ∙ sees_symbol x p h, n)))
+      (λ h. reads_err _)
 
   pub expect_sound : (x : Symbol) → Sound (λ p q t. Takes set.rules x p q) (expect set x)
   unfolding Takes
@@ -286,7 +284,7 @@ module _ (set : Setting) where
       let b = and_parts (sees s.Name p) (bytes_eq (first_bytes p.ahead) word) h in
       let e = (bytes_eq-Decides (first_bytes p.ahead) word).0 b.1 in
       reads_weaker (next_sound p) (λ q t n.
-        (t, sym (next_symbol set.rules p q t n) ∙ sees_symbol s.Name p b.0, sym e ∙ ap first_bytes n.1, n))
+      (t, sym (next_symbol set.rules p q t n) ∙ sees_symbol s.Name p b.0, sym e ∙ ap first_bytes n.1, n))
 
   pub eat_sound : (x : Symbol) → Sound (IsEaten set.rules x) (eat set x)
   unfolding eat
@@ -319,17 +317,17 @@ module _ (set : Setting) where
 
   open_reads : (ts : List Tok) (last level : ℕ)
       → Reads (λ q u. OpensArguments set.rules (record { ahead = ts; last = last; level = level }) q)
-          (open_arguments set (record { ahead = ts; last = last; level = level }))
+      (open_arguments set (record { ahead = ts; last = last; level = level }))
   unfolding open_arguments OpensArguments
   open_reads [] last level = reads_if (sees s.LeftParen (record { ahead = []; last = last; level = level })) (λ h. reads_err _) (λ h. reads_err _)
   open_reads (t ∷ ts) last level =
       let p : Place = record { ahead = t ∷ ts; last = last; level = level } in
       reads_if (sees s.LeftParen p)
-        (λ h. reads_if (set.rules.may_call last t)
-          (λ may. reads_then (next_sound p) (λ a u n. reads_ok _
-            (u, sym (next_symbol set.rules p a u n) ∙ sees_symbol s.LeftParen p h, subst (λ z. set.rules.may_call last z ≡ true) (cc (n.1)) may, n)))
-          (λ no. reads_err _))
-        (λ h. reads_err _)
+      (λ h. reads_if (set.rules.may_call last t)
+      (λ may. reads_then (next_sound p) (λ a u n. reads_ok _
+      (u, sym (next_symbol set.rules p a u n) ∙ sees_symbol s.LeftParen p h, subst (λ z. set.rules.may_call last z ≡ true) (cc (n.1)) may, n)))
+      (λ no. reads_err _))
+      (λ h. reads_err _)
 
   pub open_arguments_sound : Sound (λ p q u. OpensArguments set.rules p q) (open_arguments set)
   open_arguments_sound p = open_reads p.ahead p.last p.level
@@ -347,10 +345,11 @@ module _ (set : Setting) where
 
   pub open_arguments_complete : (low : ℕ) → Complete low (λ p q u. OpensArguments set.rules p q) (open_arguments set)
   unfolding OpensArguments
-  open_arguments_complete low p q u h n =
-      (open_by p (n.0 ∷ n.3.0) n.3.1
+  open_arguments_complete low p q u h n = (
+    open_by p (n.0 ∷ n.3.0) n.3.1
         ∙ (open_stands n.0 n.3.0 p.last p.level n.1 n.2 n.3.2 ∙ ap (λ z. Ok (tt, z)) (sym n.3.3)),
-        taken_reached (next_taken set.rules p q n.0 n.3) h)
+    taken_reached (next_taken set.rules p q n.0 n.3) h,
+  )
 
   pub raise_sound : Sound (λ p q u. (p.level ≤ set.limit) × (q ≡ raised p)) (raise set)
   unfolding raise
@@ -371,8 +370,8 @@ module _ (set : Setting) where
   unfolding phrase
   phrase_sound may_begin r sound p =
       reads_if (nat_le p.level set.limit)
-        (λ h. reads_then (sound (raised p)) (λ a x n. reads_ok _ (a, n, refl)))
-        (λ h. reads_err _)
+      (λ h. reads_then (sound (raised p)) (λ a x n. reads_ok _ (a, n, refl)))
+      (λ h. reads_err _)
 
   pub phrase_complete : {A : Type 0} {Is : Place → Place → A → Type 0} (low : ℕ) (may_begin : Place → Bool) (r : Parser A)
       → Complete (low + 1) Is r → Complete low (Within set (Deeper Is)) (phrase set may_begin r)
@@ -380,4 +379,4 @@ module _ (set : Setting) where
   phrase_complete {A} {Is} low may_begin r complete p q x h n =
       let g = complete (raised p) n.1.0 x (omega arith) n.1.1 in
       gives_if_true _ (le-leb _ _ n.0)
-        (gives_to n.1.2 (bind_by (r (raised p)) _ g.0 refl, record { level = h; ahead = g.1.ahead }))
+      (gives_to n.1.2 (bind_by (r (raised p)) _ g.0 refl, record { level = h; ahead = g.1.ahead }))
