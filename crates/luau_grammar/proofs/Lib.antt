@@ -2,3 +2,4 @@ pub mod Agreement
 pub mod Primitives
 pub mod SoundLists
 pub mod CompleteLists
+pub mod SoundTypes

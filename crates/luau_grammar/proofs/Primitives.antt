@@ -258,6 +258,12 @@ module _ (set : Setting) where
   expect_complete low x p q t h n =
       gives_if_true _ (symbol_sees x p (token_symbol set.rules p q x t n)) (next_complete low p q t h n.1)
 
+  -- a token whose symbol alone counts
+  pub expect_takes : (low : ℕ) (x : Symbol) (p q : Place) → low ≤ p.level → Takes set.rules x p q
+      → (t : Tok) × Gives low p (expect set x p) q t
+  unfolding Takes
+  expect_takes low x p q h n = (n.0, expect_complete low x p q n.0 h (n.1, n.2))
+
   -- a token whose symbol alone counts, and then another parser
   pub gives_expect : {B : Type 0} {low : ℕ} {q : Place} {y : B} (f : Tok → Parser B) (x : Symbol) (p a : Place)
       → low ≤ p.level → Takes set.rules x p a → ((t : Tok) → low ≤ a.level → Gives low a (f t a) q y)
