@@ -1,4 +1,8 @@
 pub mod Agreement
+pub mod Primitives
+pub mod SoundLists
+pub mod CompleteLists
+pub mod SoundTypes
 pub mod SoundSteps
 pub mod CompleteSteps
 pub mod Begins

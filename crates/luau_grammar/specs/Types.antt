@@ -90,7 +90,7 @@ module _ (rules : Rules) (inner : Phrases) where
       × AreMembers b q u us later tailed × (named ≡ (here || later))
 
   -- `[targlist]`, up to a `)`
-  abbrev AreListed : Place → Place → List TypeSyntax → Bool → Bool → Type 0
+  abbrev pub AreListed : Place → Place → List TypeSyntax → Bool → Bool → Type 0
   AreListed p q [] named tailed = (sees s.RightParen p ≡ true) × (q ≡ p) × (named ≡ false) × (tailed ≡ false)
   AreListed p q (t ∷ ts) named tailed = (sees s.RightParen p ≡ false) × AreMembers p q t ts named tailed
 
