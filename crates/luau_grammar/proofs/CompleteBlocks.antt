@@ -7,19 +7,21 @@ use Rattle.luau_tree.specs.View.{stats}
 use Rattle.luau_grammar.specs.declared.symbol.Symbol.{Symbol}
 use Rattle.luau_grammar.specs.declared.symbol.Symbol.TheVariants as s
 use Rattle.luau_grammar.specs.Symbols.{same}
-use Rattle.luau_grammar.specs.Places.{Place, symbol, symbol_behind, sees_behind, sees_word, start_of, over, Takes, TakesName}
+use Rattle.luau_grammar.specs.Places.{Place, symbol, symbol_behind, sees, sees_behind, sees_word, first_bytes, start_of, over, Takes, TakesName}
 use Rattle.luau_grammar.specs.Phrases.{Phrases}
 use Rattle.luau_grammar.specs.Expressions as expressions
 use Rattle.luau_grammar.specs.Statements.{begins, closes, is_last, sees_continue, sees_type, sees_export, sees_statement_word, IsVariable, AreArms, IsFunction, IsLocalFunction, IsAlias, IsTypeFunction, IsStatement, IsStatementForm, IsSemicolon, IsBlock, IsBlockBehind}
 use Rattle.luau_grammar.specs.Reading.{Setting, Readers, eat, repeats}
 use Rattle.luau_grammar.specs.ReadStatements as code
 use Rattle.luau_grammar.proofs.Agreement.{Bounded, Reached, Complete, CompletePhrases}
-use Rattle.luau_grammar.proofs.SoundSteps.{sees_it, sees_by}
+use Rattle.luau_grammar.proofs.Primitives.{Reads, reads_ok, reads_err, reads_if, reads_then, bind_by, symbol_sees, sees_by, word_sees, word_not, name_token, phrase_sound, phrase_complete, Gives}
 use Rattle.luau_grammar.proofs.SoundNamed.{attributes_level}
-use Rattle.luau_grammar.proofs.SoundBlocks.{word_seen}
-use Rattle.luau_grammar.proofs.CompleteSteps.{reads_on, yes_branch, no_branch, takes_reads, name_reads, repeats_end, repeats_turn}
-use Rattle.luau_grammar.proofs.CompleteItems.{parted}
-use Rattle.luau_grammar.proofs.CompleteStatements.{Passed, assign_reads, compound_reads, call_reads, do_reads, while_reads, repeat_reads, if_reads, numeric_reads, generic_reads}
+use Rattle.std.proofs.lemmas.Bool.{and_parts}
+use Rattle.std.proofs.lemmas.Slice.Eq.{bytes_eq-Decides}
+use Rattle.luau_grammar.proofs.SoundLists.{separated_split}
+use Rattle.luau_grammar.proofs.TakenTokens.{TakenAs, TakenName, yes_branch, no_branch, takes_reads, name_reads, raise_reads}
+use Rattle.luau_grammar.proofs.CompleteLists.{separated_from_complete, separated_complete, loop_stop, loop_step, loop_done, Loops}
+use Rattle.luau_grammar.proofs.CompleteStatements.{Passed, reached, assign_reads, compound_reads, call_reads, do_reads, while_reads, repeat_reads, if_reads, numeric_reads, generic_reads}
 use Rattle.luau_grammar.proofs.CompleteNamed.{function_reads, local_function_reads, local_reads, alias_reads, type_function_reads, return_reads}
 use Rattle.luau_grammar.proofs.StatementParts.{CompleteParts}
 
@@ -32,8 +34,8 @@ none true y z h = absurd (cc)
 other_word : (word other : List ℕ) (p : Place) → sees_word word p ≡ true → bytes_eq word other ≡ false → sees_word other p ≡ false
 unfolding sees_word
 other_word word other p h n =
-    let e = word_seen word p h in
-    ap₂ (λ x y. x && y) (sees_it s.Name p e.0) (ap (λ z. bytes_eq z other) e.1 ∙ n)
+    let e = and_parts (sees s.Name p) (bytes_eq (first_bytes p.ahead) word) h in
+    ap₂ (λ x y. x && bytes_eq y other) e.0 ((bytes_eq-Decides (first_bytes p.ahead) word).0 e.1) ∙ n
 
 first_part : (x y : Bool) → (x && y) ≡ true → x ≡ true
 first_part true y h = refl
@@ -100,7 +102,7 @@ module _ (low : ℕ) (set : Setting) (bounded : Bounded set) (inner : Phrases) (
       let sign = takes_reads set s.AtSign p h.0 bounded h.3 in
       let all = parts.attributes p a tt l (suc n, h) in
       by_symbol s.AtSign p q st sign.symbol refl (
-        reads_on _ all.0 (no_branch _ (sees_by s.Local s.Function a e) k.0),
+        bind_by _ _ all.0 (no_branch _ (sees_by s.Local a e refl) k.0),
         record { level = k.1.level; ahead = (let m = all.1.ahead in let o = k.1.ahead in omega arith) },
       )
 
@@ -111,7 +113,7 @@ module _ (low : ℕ) (set : Setting) (bounded : Bounded set) (inner : Phrases) (
   local_function_read zero p q a b st l h t e k =
       let word = takes_reads set s.Local p b bounded (subst (λ z. Takes set.rules s.Local z b) h.1 t) in
       by_symbol s.Local p q st word.symbol refl (
-        reads_on _ word.expected (yes_branch _ (sees_it s.Function b e) k.0),
+        bind_by _ _ word.expected (yes_branch _ (symbol_sees s.Function b e) k.0),
         record { level = k.1.level; ahead = (let m = word.ahead in let o = k.1.ahead in omega arith) },
       )
   local_function_read (suc n) p q a b st l h t e k =
@@ -119,7 +121,7 @@ module _ (low : ℕ) (set : Setting) (bounded : Bounded set) (inner : Phrases) (
       let all = parts.attributes p a tt l (suc n, h) in
       let word = takes_reads set s.Local a b bounded t in
       by_symbol s.AtSign p q st sign.symbol refl (
-        reads_on _ all.0 (yes_branch _ (sees_it s.Local a word.symbol) (reads_on _ word.expected k.0)),
+        bind_by _ _ all.0 (yes_branch _ (symbol_sees s.Local a word.symbol) (bind_by _ _ word.expected k.0)),
         record { level = k.1.level; ahead = (let m = all.1.ahead in let r = word.ahead in let o = k.1.ahead in omega arith) },
       )
 
@@ -136,7 +138,7 @@ module _ (low : ℕ) (set : Setting) (bounded : Bounded set) (inner : Phrases) (
   export_read p q x st h t k =
       let word = takes_reads set s.Name p x bounded t in
       by_symbol s.Name p q st word.symbol refl (
-        no_branch _ (export_is_no_continue p h) (no_branch _ (export_is_no_type p h) (yes_branch _ h (reads_on _ word.reads k.0))),
+        no_branch _ (export_is_no_continue p h) (no_branch _ (export_is_no_type p h) (yes_branch _ h (bind_by _ _ word.reads k.0))),
         record { level = k.1.level; ahead = (let m = word.ahead in let o = k.1.ahead in omega arith) },
       )
 
@@ -187,7 +189,7 @@ module _ (low : ℕ) (set : Setting) (bounded : Bounded set) (inner : Phrases) (
   break_read p q l h =
       let word = takes_reads set s.Break p q bounded h in
       by_symbol s.Break p q _ word.symbol refl
-      (reads_on _ word.reads refl, record { level = (let m = word.level in omega arith); ahead = (let m = word.ahead in omega arith) })
+      (bind_by _ _ word.reads refl, record { level = (let m = word.level in omega arith); ahead = (let m = word.ahead in omega arith) })
 
   continue_read : (p q : Place) → low ≤ p.level → sees_continue p ≡ true → TakesName set.rules p q (codes "continue")
       → StatementRead p q (tree.the_stat (over p q) tree.Continue)
@@ -195,12 +197,12 @@ module _ (low : ℕ) (set : Setting) (bounded : Bounded set) (inner : Phrases) (
   continue_read p q l e h =
       let word = name_reads set p q (codes "continue") bounded h in
       by_symbol s.Name p q _ word.symbol refl
-      (yes_branch _ e (reads_on _ word.reads refl), record { level = (let m = word.level in omega arith); ahead = (let m = word.ahead in omega arith) })
+      (yes_branch _ e (bind_by _ _ word.reads refl), record { level = (let m = word.level in omega arith); ahead = (let m = word.ahead in omega arith) })
 
   kind_reads : (p q : Place) (k : StatKind) → low ≤ p.level → IsStatementForm set.rules inner p q k
       → StatementRead p q (tree.the_stat (over p q) k)
   kind_reads p q (tree.Assign targets values) l h =
-      let first = parted set.rules (IsVariable set.rules inner) p h.1.0 h.1.2 h.1.3 h.1.4 in
+      let first = separated_split set.rules (IsVariable set.rules inner) h.1.3 p h.1.0 h.1.2 h.1.4 in
       by_prefix p first.1.0.0 q h.1.2 _ h.0 (prefix_symbol p first.1.0.0 h.1.2 first.1.0.1)
       (assign_reads low set bounded inner given held parts p q targets values l h.1)
   kind_reads p q (tree.Compound target op value) l h =
@@ -248,7 +250,7 @@ module _ (low : ℕ) (set : Setting) (bounded : Bounded set) (inner : Phrases) (
   semicolon_reads p q l (inl h) =
       let sign = takes_reads set s.Semicolon p q bounded h in (
         true,
-        yes_branch _ (sees_it s.Semicolon p sign.symbol) (reads_on _ sign.reads refl),
+        yes_branch _ (symbol_sees s.Semicolon p sign.symbol) (bind_by _ _ sign.reads refl),
         record { level = (let m = sign.level in omega arith); ahead = (let m = sign.ahead in omega arith) },
       )
   semicolon_reads p q l (inr h) =
@@ -260,7 +262,7 @@ module _ (low : ℕ) (set : Setting) (bounded : Bounded set) (inner : Phrases) (
   another_reads x p a q st l h k =
       let one = statement_reads p a st l h in
       let sign = semicolon_reads a q one.passed.level k in (
-        reads_on _ one.reads (reads_on _ sign.1 refl),
+        bind_by _ _ one.reads (bind_by _ _ sign.1 refl),
         record { level = sign.2.level; ahead = (let m = one.passed.ahead in let n = sign.2.ahead in omega arith) },
         one.begun,
       )
@@ -275,41 +277,38 @@ module _ (low : ℕ) (set : Setting) (bounded : Bounded set) (inner : Phrases) (
   stats_of tree.no_stats = refl
   stats_of (tree.more_stats x xs) = ap (tree.more_stats x) (stats_of xs)
 
-  -- What a loop over statements reads up to a place.
-  record StatementsRead (turns : ℕ) (x : code.Statements) (p q : Place) (b : Block) : Type 0 where
-    pub result : code.Statements
-    pub reads : repeats set (code.goes_statements set given) (code.another_statement set given) turns x p ≡ Ok (result, q)
-    pub found : result.found ≡ x.found ++ list_of b
-    pub reached : Reached low p q
+  -- the loop over statements
+  abbrev Statements : code.Statements → Place → Place → code.Statements → Type 0
+  Statements x p q z = Loops low set (code.goes_statements set given) (code.another_statement set given) x p q z
 
-  ended_here : (turns : ℕ) (x : code.Statements) (p q : Place) → low ≤ p.level → code.goes_statements set given x p ≡ false → q ≡ p
-      → StatementsRead turns x p q tree.no_stats
+  -- What the loop reads up to a place.
+  record StatementsRead (x : code.Statements) (p q : Place) (b : Block) : Type 0 where
+    pub result : code.Statements
+    pub found : result.found ≡ x.found ++ list_of b
+    pub reads : Statements x p q result
+
+  ended_here : (x : code.Statements) (p q : Place) → low ≤ p.level → code.goes_statements set given x p ≡ false → q ≡ p
+      → StatementsRead x p q tree.no_stats
   unfolding list_of
-  ended_here turns x p q l e h = record {
+  ended_here x p q l e h = record {
     result = x;
-    reads = repeats_end set (code.goes_statements set given) (code.another_statement set given) turns x p e ∙ ap (λ z. Ok (x, z)) (sym h);
     found = sym (append-nil x.found);
-    reached = subst (λ z. Reached low p z) (sym h) (record { level = l; ahead = omega arith });
+    reads = subst (λ z. Statements x p z x) (sym h) (loop_stop low set _ _ x p e l);
   }
 
-  statements_read : (b : Block) (ended : Bool) (found : List Stat) (turns : ℕ) (p q : Place) → low ≤ p.level → length p.ahead ≤ turns
-      → IsBlockBehind set.rules inner ended p q b → StatementsRead turns (record { found = found; ended = ended }) p q b
+  statements_read : (b : Block) (ended : Bool) (found : List Stat) (p q : Place) → low ≤ p.level
+      → IsBlockBehind set.rules inner ended p q b → StatementsRead (record { found = found; ended = ended }) p q b
   unfolding list_of
-  statements_read tree.no_stats true found turns p q l m h = ended_here turns _ p q l refl h
-  statements_read tree.no_stats false found turns p q l m h = ended_here turns _ p q l h.0 h.1
-  statements_read (tree.more_stats st xs) true found turns p q l m h = absurd h
-  statements_read (tree.more_stats st xs) false found zero p q l m h =
+  statements_read tree.no_stats true found p q l h = ended_here _ p q l refl h
+  statements_read tree.no_stats false found p q l h = ended_here _ p q l h.0 h.1
+  statements_read (tree.more_stats st xs) true found p q l h = absurd h
+  statements_read (tree.more_stats st xs) false found p q l h =
       let one = another_reads (record { found = found; ended = false }) p h.0 h.1 st l h.2 h.3 in
-      absurd (let n = one.1.ahead in omega arith)
-  statements_read (tree.more_stats st xs) false found (suc turns) p q l m h =
-      let one = another_reads (record { found = found; ended = false }) p h.0 h.1 st l h.2 h.3 in
-      let rest = statements_read xs (is_last st) (found ++ st ∷ []) turns h.1 q one.1.level (let n = one.1.ahead in omega arith) h.4 in
+      let rest = statements_read xs (is_last st) (found ++ st ∷ []) h.1 q one.1.level h.4 in
       record {
         result = rest.result;
-        reads = repeats_turn set (code.goes_statements set given) (code.another_statement set given) turns (record { found = found; ended = false }) _ p h.1 _
-            one.2 one.0 rest.reads;
         found = rest.found ∙ append_assoc found (st ∷ []) (list_of xs);
-        reached = record { level = rest.reached.level; ahead = (let n = one.1.ahead in let o = rest.reached.ahead in omega arith) };
+        reads = loop_step low set _ _ (record { found = found; ended = false }) _ rest.result p h.1 q one.2 (one.0, reached one.1) one.1.ahead rest.reads;
       }
 
   behind_none : (p q : Place) (b : Block) → IsBlock set.rules inner p q b → IsBlockBehind set.rules inner false p q b
@@ -319,5 +318,6 @@ module _ (low : ℕ) (set : Setting) (bounded : Bounded set) (inner : Phrases) (
   pub block_complete : Complete low (IsBlock set.rules inner) (code.block_inside set given)
   unfolding code.block_inside
   block_complete p q b l h =
-      let all = statements_read b false [] (length p.ahead) p q l (omega arith) (behind_none p q b h) in
-      (reads_on _ all.reads (ap (λ z. Ok (z, q)) (ap stats all.found ∙ stats_of b)), all.reached)
+      let all = statements_read b false [] p q l (behind_none p q b h) in
+      let whole = loop_done low set _ _ (record { found = []; ended = false }) all.result p q all.reads in
+      (bind_by _ _ whole.0 (ap (λ z. Ok (z, q)) (ap stats all.found ∙ stats_of b)), whole.1)

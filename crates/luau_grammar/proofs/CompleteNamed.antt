@@ -1,5 +1,5 @@
 -- Each function, local statement and alias of the grammar is read.
-use Rattle.std.proofs.Common.{◌≡◌, ℕ, suc, ◌+◌, ◌-◌, ◌≤◌, ◌⊎◌, Bool, true, false, List, length, Ok, inl, inr, refl, sym, ◌∙◌, ap, ap₂, subst, arith}
+use Rattle.std.proofs.Common.{◌≡◌, ℕ, suc, ◌+◌, ◌-◌, ◌≤◌, ◌⊎◌, Bool, true, false, List, length, Ok, inl, inr, refl, sym, ◌∙◌, ap, ap₂, subst, arith, ◌∷◌}
 use Rattle.std.specs.Prelude.{Option, Some, None}
 use Rattle.luau_tree.specs.declared.position.Span.{Span}
 use Rattle.luau_tree.specs.Tree.{Stat, Expr, Exprs, ExprKind, Bind, Binds, Body, Gens, TypeSyntax}
@@ -15,36 +15,36 @@ use Rattle.luau_grammar.specs.Reading.{Setting, Parser, Outcome, Readers, repeat
 use Rattle.luau_grammar.specs.ReadExpressions as values
 use Rattle.luau_grammar.specs.ReadStatements as code
 use Rattle.luau_grammar.proofs.Agreement.{Bounded, Reached, CompletePhrases}
-use Rattle.luau_grammar.proofs.SoundSteps.{sees_it, sees_by}
-use Rattle.luau_grammar.proofs.CompleteSteps.{TakenName, reads_on, yes_branch, no_branch, takes_reads, name_reads, raise_reads, repeats_end, repeats_turn}
-use Rattle.luau_grammar.proofs.CompleteItems.{separated_reads}
-use Rattle.luau_grammar.proofs.CompleteStatements.{Passed, several_read}
+use Rattle.luau_grammar.proofs.Primitives.{Reads, reads_ok, reads_err, reads_if, reads_then, bind_by, symbol_sees, sees_by, word_sees, word_not, name_token, phrase_sound, phrase_complete, Gives}
+use Rattle.luau_grammar.proofs.TakenTokens.{TakenAs, TakenName, yes_branch, no_branch, takes_reads, name_reads, raise_reads}
+use Rattle.luau_grammar.proofs.CompleteLists.{separated_from_complete, separated_complete, loop_stop, loop_step, loop_done, Loops}
+use Rattle.luau_grammar.proofs.CompleteStatements.{Passed, reached, several_read}
 use Rattle.luau_grammar.proofs.StatementParts.{CompleteParts}
 
 module _ (low : ℕ) (set : Setting) (bounded : Bounded set) (inner : Phrases) (given : Readers) (held : CompletePhrases low set inner given) (parts : CompleteParts low set inner given) where
   -- the loop over the names behind the first name of a path
-  abbrev names : Place → ℕ → Expr → Parser Expr
-  names p turns e = repeats set (λ _ z. sees s.Dot z) (values.index set given (start_of p)) turns e
+  abbrev Names : Place → Expr → Place → Place → Expr → Type 0
+  Names p e q r z = Loops low set (λ _ w. sees s.Dot w) (values.index set given (start_of p)) e q r z
 
   -- What is read of a path up to a place: the loop goes on from there.
   record PathRead (p q : Place) (e : Expr) : Type 0 where
     pub first : Expr
     pub begin : Place
     pub named : values.name_expression set given p ≡ Ok (first, begin)
-    pub turns : ℕ
-    pub fewer : turns + length q.ahead ≤ length begin.ahead
-    pub reads : (more : ℕ) (r : Outcome Expr) → names p more e q ≡ r → names p (turns + more) first begin ≡ r
-    pub level : low ≤ q.level
     pub begun : suc (length begin.ahead) ≤ length p.ahead
+    pub level : low ≤ q.level
+    pub reads : (r : Place) (z : Expr) → Names p e q r z → Names p first begin r z
 
-  index_reads : (p a b q : Place) (id : ℕ) (span : Span) (base : Expr) (n : List ℕ) → Takes set.rules s.Dot a b → TakesName set.rules (raised b) q n
-      → id ≡ 0 → span ≡ over p q → values.index set given (start_of p) base a ≡ Ok (tree.the_expr id span (tree.Index base n), q)
+  index_reads : (p a b q : Place) (id : ℕ) (span : Span) (base : Expr) (n : List ℕ) → low ≤ a.level → Takes set.rules s.Dot a b
+      → TakesName set.rules (raised b) q n → id ≡ 0 → span ≡ over p q
+      → (values.index set given (start_of p) base a ≡ Ok (tree.the_expr id span (tree.Index base n), q)) × Passed low a q
   unfolding values.index
-  index_reads p a b q id span base n t h e f =
+  index_reads p a b q id span base n l t h e f =
       let dot = takes_reads set s.Dot a b bounded t in
       let word = name_reads set (raised b) q n bounded h in
-      reads_on _ dot.expected (reads_on _ (raise_reads set b (let l = dot.level in let m = dot.within in omega arith))
-      (reads_on _ word.named (ap₂ (λ i z. Ok (tree.the_expr i z (tree.Index base n), q)) (sym e) (sym f))))
+      (bind_by _ _ dot.expected (bind_by _ _ (raise_reads set b (let l = dot.level in let m = dot.within in omega arith))
+          (bind_by _ _ word.named (ap₂ (λ i z. Ok (tree.the_expr i z (tree.Index base n), q)) (sym e) (sym f)))),
+        record { level = (let m = dot.level in let o = word.level in omega arith); ahead = (let m = dot.ahead in let o = word.ahead in omega arith) })
 
   path_read : (p q : Place) (e : Expr) → low ≤ p.level → IsPath set.rules inner p q e → PathRead p q e
   unfolding values.name_expression
@@ -53,30 +53,24 @@ module _ (low : ℕ) (set : Setting) (bounded : Bounded set) (inner : Phrases) (
       record {
         first = tree.the_expr id span (tree.NameExpr n);
         begin = q;
-        named = reads_on _ word.named (ap₂ (λ i z. Ok (tree.the_expr i z (tree.NameExpr n), q)) (sym h.0) (sym h.1));
-        turns = 0;
-        fewer = omega arith;
-        reads = λ more r k. subst (λ m. names p m (tree.the_expr id span (tree.NameExpr n)) q ≡ r) (omega arith) k;
-        level = (let e = word.level in omega arith);
+        named = bind_by _ _ word.named (ap₂ (λ i z. Ok (tree.the_expr i z (tree.NameExpr n), q)) (sym h.0) (sym h.1));
         begun = (let e = word.ahead in omega arith);
+        level = (let e = word.level in omega arith);
+        reads = λ r z k. k;
       }
   path_read p q (tree.the_expr id span (tree.Index base n)) l h =
       let a : Place = h.2.0 in
-      let b : Place = h.2.1 in
       let below = path_read p a base l h.2.2 in
-      let dot = takes_reads set s.Dot a b bounded h.2.3 in
-      let word = name_reads set (raised b) q n bounded h.2.4 in
+      let dot = takes_reads set s.Dot a h.2.1 bounded h.2.3 in
+      let one = index_reads p a h.2.1 q id span base n below.level h.2.3 h.2.4 h.0 h.1 in
       record {
         first = below.first;
         begin = below.begin;
         named = below.named;
-        turns = below.turns + 1;
-        fewer = (let e = below.fewer in let f = dot.ahead in let g = word.ahead in omega arith);
-        reads = λ more r k. subst (λ m. names p m below.first below.begin ≡ r) (omega arith)
-            (below.reads (suc more) r (repeats_turn set (λ _ z. sees s.Dot z) (values.index set given (start_of p)) more base (tree.the_expr id span (tree.Index base n)) a q r
-            (sees_it s.Dot a dot.symbol) (index_reads p a b q id span base n h.2.3 h.2.4 h.0 h.1) k));
-        level = (let e = below.level in let f = dot.level in let g = word.level in omega arith);
         begun = below.begun;
+        level = one.1.level;
+        reads = λ r z k. below.reads r z (loop_step low set (λ _ w. sees s.Dot w) (values.index set given (start_of p)) base _ z a q r
+            (symbol_sees s.Dot a dot.symbol) (one.0, reached one.1) one.1.ahead k);
       }
   path_read p q (tree.the_expr id span kind) l h = absurd h.2
 
@@ -85,13 +79,10 @@ module _ (low : ℕ) (set : Setting) (bounded : Bounded set) (inner : Phrases) (
   unfolding code.path code.path_name
   path_reads p q e l h n =
       let found = path_read p q e l h in
-      let more : ℕ = length found.begin.ahead - found.turns in
-      let all : found.turns + more ≡ length found.begin.ahead = (let f = found.fewer in omega arith) in (
-        reads_on _ found.named
-            (subst (λ m. names p m found.first found.begin ≡ Ok (e, q)) all
-            (found.reads more (Ok (e, q)) (repeats_end set (λ _ z. sees s.Dot z) (values.index set given (start_of p)) more e q n))),
-        record { level = found.level; ahead = (let f = found.fewer in let g = found.begun in omega arith) },
-      )
+      let rest = loop_done low set (λ _ w. sees s.Dot w) (values.index set given (start_of p)) found.first e found.begin q
+          (found.reads q e (loop_stop low set _ _ e q n found.level)) in
+      (bind_by _ _ found.named rest.0,
+        record { level = found.level; ahead = (let f = rest.1.ahead in let g = found.begun in omega arith) })
 
   method_name_reads : (p q : Place) (n : Option (List ℕ)) (span : Option Span) → low ≤ p.level → IsMethodName set.rules inner p q n span
       → (code.method_name set given p ≡ Ok (record { name = n; span = span }, q)) × Reached low p q
@@ -103,9 +94,9 @@ module _ (low : ℕ) (set : Setting) (bounded : Bounded set) (inner : Phrases) (
   method_name_reads p q (Some n) (Some span) l h =
       let sign = takes_reads set s.Colon p h.0 bounded h.1 in
       let word = name_reads set (raised h.0) q n bounded h.2 in (
-        yes_branch _ (sees_it s.Colon p sign.symbol)
-            (reads_on _ sign.expected (reads_on _ (raise_reads set h.0 (let e = sign.level in let m = sign.within in omega arith))
-            (reads_on _ word.named (ap (λ z. Ok (record { name = Some n; span = Some z }, q)) (sym h.3))))),
+        yes_branch _ (symbol_sees s.Colon p sign.symbol)
+            (bind_by _ _ sign.expected (bind_by _ _ (raise_reads set h.0 (let e = sign.level in let m = sign.within in omega arith))
+            (bind_by _ _ word.named (ap (λ z. Ok (record { name = Some n; span = Some z }, q)) (sym h.3))))),
         record { level = (let e = sign.level in let f = word.level in omega arith); ahead = (let e = sign.ahead in let f = word.ahead in omega arith) },
       )
   method_name_reads p q None (Some span) l h = absurd h
@@ -122,8 +113,8 @@ module _ (low : ℕ) (set : Setting) (bounded : Bounded set) (inner : Phrases) (
       let method = method_name_reads c d n span named.1.level m in
       let rest = parts.body span (at_level p.level d) q body l k in
       let level : b.level ≡ p.level = word.level ∙ same_level in (
-        reads_on _ word.expected (reads_on _ named.0 (reads_on _ method.0
-            (reads_on _ (ap (λ z. values.body set given span (at_level z d)) level ∙ rest.0) refl))),
+        bind_by _ _ word.expected (bind_by _ _ named.0 (bind_by _ _ method.0
+            (bind_by _ _ (ap (λ z. values.body set given span (at_level z d)) level ∙ rest.0) refl))),
         record {
           level = rest.1.level;
           ahead = (let e = word.ahead in let f = named.1.ahead in let g = method.1.ahead in let j = rest.1.ahead in omega arith);
@@ -138,7 +129,7 @@ module _ (low : ℕ) (set : Setting) (bounded : Bounded set) (inner : Phrases) (
       let word = takes_reads set s.Function b c bounded t in
       let named = name_reads set c d n bounded h in
       let rest = parts.body None d q body (let m = word.level in let o = named.level in omega arith) k in (
-        reads_on _ word.expected (reads_on _ named.named (reads_on _ rest.0
+        bind_by _ _ word.expected (bind_by _ _ named.named (bind_by _ _ rest.0
             (ap (λ z. Ok (tree.the_stat (over p q) (tree.LocalFunction (tree.the_bind n z tree.no_type) body), q)) (sym e)))),
         record { level = rest.1.level; ahead = (let m = word.ahead in let o = named.ahead in let r = rest.1.ahead in omega arith) },
       )
@@ -151,7 +142,7 @@ module _ (low : ℕ) (set : Setting) (bounded : Bounded set) (inner : Phrases) (
   values_read p q es l (inr h) =
       let sign = takes_reads set s.Assign p h.0 bounded h.1 in
       let all = several_read low set bounded inner given held parts h.0 q es (let m = sign.level in omega arith) h.2 in (
-        yes_branch _ (sees_it s.Assign p sign.symbol) (reads_on _ sign.expected (reads_on _ all.2 (ap (λ z. Ok (z, q)) (sym all.1)))),
+        yes_branch _ (symbol_sees s.Assign p sign.symbol) (bind_by _ _ sign.expected (bind_by _ _ all.2 (ap (λ z. Ok (z, q)) (sym all.1)))),
         record { level = all.3.level; ahead = (let m = sign.ahead in let n = all.3.ahead in omega arith) },
       )
 
@@ -161,15 +152,15 @@ module _ (low : ℕ) (set : Setting) (bounded : Bounded set) (inner : Phrases) (
   unfolding code.local_statement code.local_names
   local_reads p q a b names es l t n h k =
       let word = takes_reads set s.Local p a bounded t in
-      let all = separated_reads set bounded low (expressions.IsBind set.rules inner) (values.bind set given) parts.bind h.0 h.1 a b (let e = word.level in omega arith) h.2 in
+      let all = separated_complete low set (expressions.IsBind set.rules inner) (values.bind set given) parts.bind a b (h.0 ∷ h.1) (let e = word.level in omega arith) h.2 in
       let more = values_read b q es all.1.level k in (
-        reads_on _ word.expected (no_branch _ n (reads_on _ all.0 (reads_on _ more.0 (ap (λ z. Ok (tree.the_stat (over p q) (tree.Local z es), q)) (sym h.3))))),
+        bind_by _ _ word.expected (no_branch _ n (bind_by _ _ all.0 (bind_by _ _ more.0 (ap (λ z. Ok (tree.the_stat (over p q) (tree.Local z es), q)) (sym h.3))))),
         record { level = more.1.level; ahead = (let e = word.ahead in let f = all.1.ahead in let g = more.1.ahead in omega arith) },
       )
 
   no_function : (a b : Place) (n : List ℕ) → TakenName set a b n → sees s.Function a ≡ false
   unfolding same
-  no_function a b n h = sees_by s.Function s.Name a h.symbol
+  no_function a b n h = sees_by s.Function a h.symbol refl
 
   pub alias_reads : (p q x a b c d : Place) (exported : Bool) (w n : List ℕ) (gs : Gens) (ty : TypeSyntax) → low ≤ x.level
       → TakesName set.rules x a w → TakesName set.rules a b n → types.AreGenerics set.rules inner true b c gs → Takes set.rules s.Assign c d
@@ -182,7 +173,7 @@ module _ (low : ℕ) (set : Setting) (bounded : Bounded set) (inner : Phrases) (
       let generics = parts.generics true b c gs (let e = word.level in let f = named.level in omega arith) hg in
       let sign = takes_reads set s.Assign c d bounded t in
       let type = held.typ d q ty (let e = generics.1.level in let f = sign.level in omega arith) ht in (
-        reads_on _ word.reads (no_branch _ (no_function a b n named) (reads_on _ named.named (reads_on _ generics.0 (reads_on _ sign.expected (reads_on _ type.0 refl))))),
+        bind_by _ _ word.reads (no_branch _ (no_function a b n named) (bind_by _ _ named.named (bind_by _ _ generics.0 (bind_by _ _ sign.expected (bind_by _ _ type.0 refl))))),
         record {
           level = type.1.level;
           ahead = (let e = word.ahead in let f = named.ahead in let g = generics.1.ahead in let h = sign.ahead in let i = type.1.ahead in omega arith);
@@ -198,7 +189,7 @@ module _ (low : ℕ) (set : Setting) (bounded : Bounded set) (inner : Phrases) (
       let function = takes_reads set s.Function a b bounded t in
       let named = name_reads set b c n bounded hn in
       let rest = parts.body None c q body (let e = word.level in let f = function.level in let g = named.level in omega arith) hb in (
-        reads_on _ word.reads (yes_branch _ (sees_it s.Function a function.symbol) (reads_on _ function.expected (reads_on _ named.named (reads_on _ rest.0 refl)))),
+        bind_by _ _ word.reads (yes_branch _ (symbol_sees s.Function a function.symbol) (bind_by _ _ function.expected (bind_by _ _ named.named (bind_by _ _ rest.0 refl)))),
         record {
           level = rest.1.level;
           ahead = (let e = word.ahead in let f = function.ahead in let g = named.ahead in let h = rest.1.ahead in omega arith);
@@ -213,7 +204,7 @@ module _ (low : ℕ) (set : Setting) (bounded : Bounded set) (inner : Phrases) (
       (no_branch _ h.0 (ap₂ (λ x z. Ok (x, z)) (sym h.2) (sym h.1)), subst (λ z. Reached low a z) (sym h.1) (record { level = l; ahead = omega arith }))
   returned_read a q es l (inr h) =
       let all = several_read low set bounded inner given held parts a q es l h.1 in
-      (yes_branch _ h.0 (reads_on _ all.2 (ap (λ z. Ok (z, q)) (sym all.1))), all.3)
+      (yes_branch _ h.0 (bind_by _ _ all.2 (ap (λ z. Ok (z, q)) (sym all.1))), all.3)
 
   pub return_reads : (p q : Place) (es : Exprs) → low ≤ p.level → IsReturn set.rules inner p q es
       → (code.return_statement set given (start_of p) p ≡ Ok (tree.the_stat (over p q) (tree.Return es), q)) × Passed low p q
@@ -221,6 +212,6 @@ module _ (low : ℕ) (set : Setting) (bounded : Bounded set) (inner : Phrases) (
   return_reads p q es l h =
       let word = takes_reads set s.Return p h.0 bounded h.1 in
       let all = returned_read h.0 q es (let e = word.level in omega arith) h.2 in (
-        reads_on _ word.expected (reads_on _ all.0 refl),
+        bind_by _ _ word.expected (bind_by _ _ all.0 refl),
         record { level = all.1.level; ahead = (let e = word.ahead in let f = all.1.ahead in omega arith) },
       )

@@ -16,8 +16,8 @@ use Rattle.luau_grammar.specs.ReadExpressions.{expression_inside}
 use Rattle.luau_grammar.specs.ReadStatements.{block_inside}
 use Rattle.luau_grammar.specs.ReadModules.{too_deep, readers}
 use Rattle.luau_grammar.proofs.Agreement.{Bounded, Sound, Complete, SoundPhrases, CompletePhrases}
-use Rattle.luau_grammar.proofs.SoundSteps.{sound_of, holds_of, here, nothing, branch, phrase_holds}
-use Rattle.luau_grammar.proofs.CompleteSteps.{phrase_reads}
+use Rattle.luau_grammar.proofs.Primitives.{Reads, reads_ok, reads_err, reads_if, reads_then, bind_by, symbol_sees, sees_by, word_sees, word_not, name_token, phrase_sound, phrase_complete, Gives}
+use Rattle.luau_grammar.proofs.TakenTokens.{TakenAs, TakenName, yes_branch, no_branch, takes_reads, name_reads, raise_reads}
 use Rattle.luau_grammar.proofs.Begins.{level_within, expression_begins, type_begins}
 
 -- What the parsers of the phrases' insides read is in the grammar, where that holds of the phrases in them.
@@ -38,13 +38,19 @@ pub record CompleteFamilies (set : Setting) : Type 1 where
   pub block : (low : ℕ) (inner : Phrases) (given : Readers) → CompletePhrases low set inner given
       → Complete low (IsBlock set.rules inner) (block_inside set given)
 
+flat_block : (set : Setting) (inner : Phrases) → Sound (IsBlock set.rules inner) (too_deep set).block
+unfolding too_deep
+flat_block set inner p = reads_if (statements.begins (symbol p)) (λ _. reads_err _) (λ e. reads_ok _ (e, refl))
+
 sound_flat : (set : Setting) → SoundPhrases set (phrases set.rules 1) (readers set 0)
 unfolding readers too_deep parse.expression parse.typ parse.block
-sound_flat set = record {
-  exp = sound_of (λ p. phrase_holds set _ _ p (nothing _));
-  typ = λ begun. sound_of (λ p. phrase_holds set _ _ p (nothing _));
-  block = sound_of (λ p. phrase_holds set _ _ p (branch (statements.begins (symbol (raised p))) _ _ (λ _. nothing _) (λ e. here no_stats (raised p) (e, refl))));
-}
+sound_flat set =
+    let inner = phrases set.rules 0 in
+    record {
+      exp = phrase_sound set {Is = IsExpression set.rules inner} _ _ (λ p. reads_err _);
+      typ = λ begun. phrase_sound set {Is = IsType set.rules inner begun} _ _ (λ p. reads_err _);
+      block = phrase_sound set {Is = IsBlock set.rules inner} _ _ (flat_block set inner);
+    }
 
 pub sound_at : (set : Setting) → SoundFamilies set → (deep : ℕ) → SoundPhrases set (phrases set.rules (suc deep)) (readers set deep)
 unfolding readers parse.expression parse.typ parse.block
@@ -53,9 +59,9 @@ sound_at set all (suc deep) =
     let below = sound_at set all deep in
     let inner = phrases set.rules (suc deep) in
     record {
-      exp = sound_of (λ p. phrase_holds set _ _ p (holds_of (all.exp inner (readers set deep) below) (raised p)));
-      typ = λ begun. sound_of (λ p. phrase_holds set _ _ p (holds_of (all.typ inner (readers set deep) below begun) (raised p)));
-      block = sound_of (λ p. phrase_holds set _ _ p (holds_of (all.block inner (readers set deep) below) (raised p)));
+      exp = phrase_sound set _ _ (all.exp inner (readers set deep) below);
+      typ = λ begun. phrase_sound set _ _ (all.typ inner (readers set deep) below begun);
+      block = phrase_sound set _ _ (all.block inner (readers set deep) below);
     }
 
 too_low : {A : Type 0} (set : Setting) (low level : ℕ) → set.limit + 2 ≤ low + 0 → low ≤ level → level ≤ set.limit → A
@@ -91,10 +97,12 @@ complete_at set bounded all (suc deep) (suc held) low e =
     let given = readers set deep in
     let below = complete_at set bounded all deep held (low + 1) (omega arith) in
     record {
-      exp = λ p q x l h. phrase_reads set _ _ low (all.exp (low + 1) inner given below) p q x l
-          (let m = level_within set (raised p) bounded (expression_begins set.rules inner (raised p) h.0 x h.1) in omega arith) h;
-      typ = λ p q x l h. phrase_reads set _ _ low (all.typ (low + 1) inner given below None) p q x l
-          (let m = level_within set (raised p) bounded (type_begins set.rules inner (raised p) h.0 x h.1) in omega arith) h;
-      begun = λ b p q x l h. phrase_reads set _ _ low (all.typ (low + 1) inner given below (Some b)) p q x l h.0 h.1;
-      block = λ p q x l h. phrase_reads set _ _ low (all.block (low + 1) inner given below) p q x l h.0 h.1;
+      exp = λ p q x l h.
+          let m = level_within set (raised p) bounded (expression_begins set.rules inner (raised p) h.0 x h.1) in
+          phrase_complete set low _ _ (all.exp (low + 1) inner given below) p q x l (omega arith, h);
+      typ = λ p q x l h.
+          let m = level_within set (raised p) bounded (type_begins set.rules inner (raised p) h.0 x h.1) in
+          phrase_complete set low _ _ (all.typ (low + 1) inner given below None) p q x l (omega arith, h);
+      begun = λ b. phrase_complete set low _ _ (all.typ (low + 1) inner given below (Some b));
+      block = phrase_complete set low _ _ (all.block (low + 1) inner given below);
     }

@@ -1,5 +1,5 @@
 -- The tree of a list of tokens is what the parser reads, and there is at most one.
-use Rattle.std.proofs.Common.{◌≡◌, ℕ, suc, ◌+◌, ◌≤◌, Bool, true, false, not, ◌&&◌, cond, bytes_eq, List, [], ◌∷◌, Ok, refl, sym, ◌∙◌, ap, arith}
+use Rattle.std.proofs.Common.{◌≡◌, ℕ, suc, ◌+◌, ◌≤◌, Bool, true, false, not, ◌&&◌, cond, bytes_eq, List, [], ◌∷◌, Ok, Err, refl, sym, ◌∙◌, ap, arith}
 use Rattle.luau_tree.specs.Tree.{Block}
 use Rattle.luau_lex.specs.Tokens.{Tok}
 use Rattle.luau_lex.specs.declared.token.Kind.{Kind}
@@ -9,12 +9,12 @@ use Rattle.luau_grammar.specs.declared.symbol.Symbol.TheVariants as s
 use Rattle.luau_grammar.specs.Symbols.{same, look_up, words, signs, symbol_by, symbol_of}
 use Rattle.luau_grammar.specs.Places.{Place, first_symbol, symbol, sees}
 use Rattle.luau_grammar.specs.Modules.{phrases, before, IsBare}
-use Rattle.luau_grammar.specs.Reading.{Setting}
+use Rattle.luau_grammar.specs.Reading.{Setting, Outcome}
 use Rattle.luau_grammar.specs.ReadPhrases as parse
 use Rattle.luau_grammar.specs.ReadModules.{readers, module_with}
 use Rattle.luau_grammar.proofs.Agreement.{Bounded}
-use Rattle.luau_grammar.proofs.SoundSteps.{Holds, holds_of, here, nothing, branch, step, one_read}
-use Rattle.luau_grammar.proofs.CompleteSteps.{reads_on, yes_branch}
+use Rattle.luau_grammar.proofs.Primitives.{Reads, reads_ok, reads_err, reads_if, reads_then, bind_by, symbol_sees, sees_by, word_sees, word_not, name_token, phrase_sound, phrase_complete, Gives}
+use Rattle.luau_grammar.proofs.TakenTokens.{TakenAs, TakenName, yes_branch, no_branch, takes_reads, name_reads, raise_reads}
 use Rattle.luau_grammar.proofs.Depth.{SoundFamilies, CompleteFamilies, sound_at, complete_at}
 
 -- no entry of a table is the end of the text
@@ -74,17 +74,16 @@ unfolding sees symbol same
 end_seen p e = ap (λ ts. same (first_symbol ts) s.Stop) e
 
 module_holds : (set : Setting) → SoundFamilies set → (deep : ℕ) (p : Place)
-    → Holds Block (λ q b. (phrases set.rules (suc deep)).block p q b × (q.ahead ≡ [])) (module_with set deep p)
+    → Reads (λ q b. (phrases set.rules (suc deep)).block p q b × (q.ahead ≡ [])) (module_with set deep p)
 unfolding module_with
 module_holds set all deep p =
-    step (parse.block set (readers set deep) p) _ (holds_of ((sound_at set all deep).block) p)
-    (λ b q h. branch (sees s.Stop q) _ _ (λ e. here b q (h, at_end q e)) (λ _. nothing _))
+    reads_then ((sound_at set all deep).block p) (λ q b h. reads_if (sees s.Stop q) (λ e. reads_ok _ (h, at_end q e)) (λ _. reads_err _))
 
 -- what is read is the tree
 pub read_is_bare : (set : Setting) → SoundFamilies set → (deep : ℕ) (ts : List Tok) (b : Block) (q : Place)
     → module_with set deep (before ts) ≡ Ok (b, q) → IsBare set.rules ts b
 read_is_bare set all deep ts b q e =
-    let h = (module_holds set all deep (before ts)).all b q e in
+    let h = module_holds set all deep (before ts) q b e in
     (suc deep, q, h.0, h.1)
 
 -- the tree is read
@@ -93,7 +92,15 @@ pub bare_is_read : (set : Setting) → Bounded set → CompleteFamilies set → 
 unfolding module_with
 bare_is_read set bounded all deep e ts b h =
     let r = (complete_at set bounded all deep h.0 0 (omega arith)).block (before ts) h.1 b (omega arith) (omega arith, h.2) in
-    reads_on _ r.0 (yes_branch _ (end_seen h.1 h.3) refl)
+    bind_by _ _ r.0 (yes_branch _ (end_seen h.1 h.3) refl)
+
+read_or : {A : Type 0} → A × Place → Outcome A → A × Place
+read_or d (Ok x) = x
+read_or d (Err e) = d
+
+one_read : {A : Type 0} (x y : A × Place) (o : Outcome A) → o ≡ Ok x → o ≡ Ok y → x ≡ y
+unfolding read_or
+one_read x y o d e = ap (read_or x) (sym d ∙ e)
 
 -- at most one tree
 pub one_tree : (set : Setting) → Bounded set → CompleteFamilies set → (ts : List Tok) (b c : Block)
