@@ -3,3 +3,4 @@ pub mod Primitives
 pub mod SoundLists
 pub mod CompleteLists
 pub mod SoundTypes
+pub mod CompleteTypes
