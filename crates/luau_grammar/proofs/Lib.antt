@@ -2,3 +2,8 @@ pub mod Agreement
 pub mod Primitives
 pub mod SoundLists
 pub mod CompleteLists
+pub mod Assertions
+pub mod Tightness
+pub mod OperatorSteps
+pub mod SoundOperators
+pub mod CompleteOperators
