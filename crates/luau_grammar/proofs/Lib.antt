@@ -3,3 +3,8 @@ pub mod Primitives
 pub mod SoundLists
 pub mod CompleteLists
 pub mod SoundTypes
+pub mod Assertions
+pub mod Tightness
+pub mod OperatorSteps
+pub mod SoundOperators
+pub mod CompleteOperators
