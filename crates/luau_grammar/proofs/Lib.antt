@@ -8,3 +8,10 @@ pub mod Tightness
 pub mod OperatorSteps
 pub mod SoundOperators
 pub mod CompleteOperators
+pub mod PlainPhrases
+pub mod SoundBodies
+pub mod SoundSuffixes
+pub mod SoundExpressions
+pub mod CompleteBodies
+pub mod CompleteSuffixes
+pub mod CompleteExpressions
