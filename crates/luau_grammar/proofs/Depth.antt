@@ -18,6 +18,7 @@ use Rattle.luau_grammar.specs.ReadModules.{too_deep, readers}
 use Rattle.luau_grammar.proofs.Agreement.{Bounded, Sound, Complete, SoundPhrases, CompletePhrases}
 use Rattle.luau_grammar.proofs.Primitives.{Reads, reads_ok, reads_err, reads_if, reads_then, bind_by, symbol_sees, sees_by, word_sees, word_not, name_token, phrase_sound, phrase_complete, Gives}
 use Rattle.luau_grammar.proofs.TakenTokens.{TakenAs, TakenName, yes_branch, no_branch, takes_reads, name_reads, raise_reads}
+use Rattle.luau_grammar.proofs.PlainPhrases.{PlainPhrases, phrases_plain}
 use Rattle.luau_grammar.proofs.Begins.{level_within, expression_begins, type_begins}
 
 -- What the parsers of the phrases' insides read is in the grammar, where that holds of the phrases in them.
@@ -31,11 +32,11 @@ pub record SoundFamilies (set : Setting) : Type 1 where
 
 -- They read all that is in the grammar, where that holds of the phrases in them.
 pub record CompleteFamilies (set : Setting) : Type 1 where
-  pub exp : (low : ℕ) (inner : Phrases) (given : Readers) → CompletePhrases low set inner given
+  pub exp : (low : ℕ) (inner : Phrases) (given : Readers) → PlainPhrases inner → PlainPhrases inner → CompletePhrases low set inner given
       → Complete low (IsExpression set.rules inner) (expression_inside set given)
-  pub typ : (low : ℕ) (inner : Phrases) (given : Readers) → CompletePhrases low set inner given → (begun : Option Listed)
+  pub typ : (low : ℕ) (inner : Phrases) (given : Readers) → PlainPhrases inner → PlainPhrases inner → CompletePhrases low set inner given → (begun : Option Listed)
       → Complete low (IsType set.rules inner begun) (type_inside set given begun)
-  pub block : (low : ℕ) (inner : Phrases) (given : Readers) → CompletePhrases low set inner given
+  pub block : (low : ℕ) (inner : Phrases) (given : Readers) → PlainPhrases inner → PlainPhrases inner → CompletePhrases low set inner given
       → Complete low (IsBlock set.rules inner) (block_inside set given)
 
 flat_block : (set : Setting) (inner : Phrases) → Sound (IsBlock set.rules inner) (too_deep set).block
@@ -95,14 +96,15 @@ complete_at set bounded all zero (suc held) low e = complete_flat set bounded he
 complete_at set bounded all (suc deep) (suc held) low e =
     let inner = phrases set.rules held in
     let given = readers set deep in
+    let plain = phrases_plain set.rules held in
     let below = complete_at set bounded all deep held (low + 1) (omega arith) in
     record {
       exp = λ p q x l h.
           let m = level_within set (raised p) bounded (expression_begins set.rules inner (raised p) h.0 x h.1) in
-          phrase_complete set low _ _ (all.exp (low + 1) inner given below) p q x l (omega arith, h);
+          phrase_complete set low _ _ (all.exp (low + 1) inner given plain below) p q x l (omega arith, h);
       typ = λ p q x l h.
           let m = level_within set (raised p) bounded (type_begins set.rules inner (raised p) h.0 x h.1) in
-          phrase_complete set low _ _ (all.typ (low + 1) inner given below None) p q x l (omega arith, h);
-      begun = λ b. phrase_complete set low _ _ (all.typ (low + 1) inner given below (Some b));
-      block = phrase_complete set low _ _ (all.block (low + 1) inner given below);
+          phrase_complete set low _ _ (all.typ (low + 1) inner given plain below None) p q x l (omega arith, h);
+      begun = λ b. phrase_complete set low _ _ (all.typ (low + 1) inner given plain below (Some b));
+      block = phrase_complete set low _ _ (all.block (low + 1) inner given plain below);
     }
