@@ -3,6 +3,7 @@ pub mod Primitives
 pub mod SoundLists
 pub mod CompleteLists
 pub mod SoundTypes
+pub mod CompleteTypes
 pub mod Assertions
 pub mod Tightness
 pub mod OperatorSteps
@@ -15,3 +16,4 @@ pub mod SoundExpressions
 pub mod CompleteBodies
 pub mod CompleteSuffixes
 pub mod CompleteExpressions
+pub mod ExpressionFamily

@@ -19,11 +19,11 @@ use Rattle.luau_grammar.proofs.Agreement.{Sound, SoundPhrases}
 use Rattle.luau_grammar.proofs.Primitives.{Reads, reads_ok, reads_err, reads_if, reads_then, reads_weaker, expect_sound, raise_sound, next_seen, next_word, name_sound, string_sound, eat_sound, IsEaten, takes_sees, symbol_sees}
 use Rattle.luau_grammar.proofs.SoundLists.{AreMore, IsBraced, repeat_sound, more_sound, separated_sound, some_separated, braced_sound}
 
-or_false : (b : Bool) → b ≡ (b || false)
+pub or_false : (b : Bool) → b ≡ (b || false)
 or_false true = refl
 or_false false = refl
 
-or_assoc : (a b c : Bool) → ((a || b) || c) ≡ (a || (b || c))
+pub or_assoc : (a b c : Bool) → ((a || b) || c) ≡ (a || (b || c))
 or_assoc true b c = refl
 or_assoc false b c = refl
 
