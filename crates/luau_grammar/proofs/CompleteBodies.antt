@@ -9,7 +9,6 @@ use Rattle.luau_grammar.specs.declared.symbol.Symbol.TheVariants as s
 use Rattle.luau_grammar.specs.Symbols.{same}
 use Rattle.luau_grammar.specs.Places.{Place, Takes, TakesName, sees, over}
 use Rattle.luau_grammar.specs.Phrases.{Phrases}
-use Rattle.luau_grammar.specs.Types as types
 use Rattle.luau_grammar.specs.Expressions.{HasSelf, AreAttributes, IsAnnotation, IsBind, IsVarType, IsVarparam, AreParameters, IsMaybeResult, IsBody}
 use Rattle.luau_grammar.specs.Reading.{Setting, Readers}
 use Rattle.luau_grammar.specs.ReadTypes as readtypes
@@ -17,6 +16,7 @@ use Rattle.luau_grammar.specs.ReadExpressions.{Parameters, with_self, goes_param
 use Rattle.luau_grammar.proofs.Agreement.{Bounded, Reached, Complete, CompletePhrases}
 use Rattle.luau_grammar.proofs.Primitives.{Gives, gives_ok, gives_same, gives_here, gives_then, gives_if_true, gives_if_false, gives_expect, takes_bounded, takes_sees, takes_not, takes_taken, name_complete, name_token}
 use Rattle.luau_grammar.proofs.CompleteLists.{Loops, loop_stop, loop_step, loop_done}
+use Rattle.luau_grammar.proofs.CompleteTypes.{generics_complete, result_complete}
 use Rattle.luau_grammar.proofs.PlainPhrases.{PlainPhrases}
 use Rattle.luau_grammar.proofs.SoundBodies.{Follow, unfollow}
 
@@ -164,27 +164,25 @@ module _ (low : ℕ) (set : Setting) (inner : Phrases) (readers : Readers) (comp
   pub parameters_complete : Complete low (λ p q all. AreParameters set.rules inner p q all.found all.rest) (parameters set readers)
   parameters_complete p q all l h = parameters_by all.found all.rest p q l h
 
-  module _ (generics : (may : Bool) → Complete low (types.AreGenerics set.rules inner may) (readtypes.generics set readers may))
-      (result : Complete low (types.IsResult set.rules inner) (readtypes.result set readers)) where
-    maybe_result_complete : Complete low (IsMaybeResult set.rules inner) (maybe_result set readers)
-    unfolding maybe_result
-    maybe_result_complete p q tree.no_type l h = gives_if_false _ h.0 (gives_here l h.1)
-    maybe_result_complete p q (tree.a_type t) l h =
-        gives_if_true _ (takes_sees set.rules p h.0 s.Colon h.1)
-        (gives_expect set _ s.Colon p h.0 l h.1 (λ u k. gives_then _ (result h.0 q t k h.2) (λ m. gives_ok m)))
+  maybe_result_complete : Bounded set → Complete low (IsMaybeResult set.rules inner) (maybe_result set readers)
+  unfolding maybe_result
+  maybe_result_complete bounded p q tree.no_type l h = gives_if_false _ h.0 (gives_here l h.1)
+  maybe_result_complete bounded p q (tree.a_type t) l h =
+      gives_if_true _ (takes_sees set.rules p h.0 s.Colon h.1)
+      (gives_expect set _ s.Colon p h.0 l h.1 (λ u k. gives_then _ (result_complete low set inner readers bounded complete h.0 q t k h.2) (λ m. gives_ok m)))
 
-    pub body_complete : Bounded set → PlainPhrases inner → (method : Option Span)
-        → Complete low (IsBody set.rules inner method) (body set readers method)
-    unfolding body
-    body_complete bounded plain method p q (tree.the_body id has_self gs params rest r block span) l h =
-        let (id_is, span_is, a, b, c, d, e, f, own, h1, h2, h3, h4, h5, h6, h7, h8) = h in
-        let self = self_has method has_self own params h8 in
-        let e_level : e.level ≤ set.limit = let u = plain.level e f block h6 in let v = takes_bounded set f q s.End bounded h7 in omega arith in
-        gives_same (the_same_body id 0 has_self (is_some method) gs params (binds (with_self method own)) rest r block span (over p q) id_is self.0 self.1 span_is)
-        (gives_then _ (generics false p a gs l h1) (λ k1.
-        gives_expect set _ s.LeftParen a b k1 h2 (λ t1 k2.
-        gives_then _ (parameters_by own rest b c k2 h3) (λ k3.
-        gives_expect set _ s.RightParen c d k3 h4 (λ t2 k4.
-        gives_then _ (maybe_result_complete d e r k4 h5) (λ k5.
-        gives_then _ (complete.block e f block k5 (e_level, h6)) (λ k6.
-        gives_expect set _ s.End f q k6 h7 (λ t3 k7. gives_ok k7))))))))
+  pub body_complete : Bounded set → PlainPhrases inner → (method : Option Span)
+      → Complete low (IsBody set.rules inner method) (body set readers method)
+  unfolding body
+  body_complete bounded plain method p q (tree.the_body id has_self gs params rest r block span) l h =
+      let (id_is, span_is, a, b, c, d, e, f, own, h1, h2, h3, h4, h5, h6, h7, h8) = h in
+      let self = self_has method has_self own params h8 in
+      let e_level : e.level ≤ set.limit = let u = plain.level e f block h6 in let v = takes_bounded set f q s.End bounded h7 in omega arith in
+      gives_same (the_same_body id 0 has_self (is_some method) gs params (binds (with_self method own)) rest r block span (over p q) id_is self.0 self.1 span_is)
+      (gives_then _ (generics_complete low set inner readers bounded complete false p a gs l h1) (λ k1.
+      gives_expect set _ s.LeftParen a b k1 h2 (λ t1 k2.
+      gives_then _ (parameters_by own rest b c k2 h3) (λ k3.
+      gives_expect set _ s.RightParen c d k3 h4 (λ t2 k4.
+      gives_then _ (maybe_result_complete bounded d e r k4 h5) (λ k5.
+      gives_then _ (complete.block e f block k5 (e_level, h6)) (λ k6.
+      gives_expect set _ s.End f q k6 h7 (λ t3 k7. gives_ok k7))))))))

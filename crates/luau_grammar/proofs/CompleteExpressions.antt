@@ -10,10 +10,8 @@ use Rattle.luau_grammar.specs.declared.symbol.Symbol.TheVariants as s
 use Rattle.luau_grammar.specs.Symbols.{same}
 use Rattle.luau_grammar.specs.Places.{Place, Takes, TakesNumber, TakesString, sees, symbol, start_of, over}
 use Rattle.luau_grammar.specs.Phrases.{Phrases}
-use Rattle.luau_grammar.specs.Types as types
 use Rattle.luau_grammar.specs.Expressions.{begins_suffix, AreAttributes, AreChoices, IsIfElse, AreParts, IsTable, IsPrefix, IsPrefixForm, IsBody, IsSimple, IsSimpleForm}
 use Rattle.luau_grammar.specs.Reading.{Setting, Readers}
-use Rattle.luau_grammar.specs.ReadTypes as readtypes
 use Rattle.luau_grammar.specs.ReadExpressions.{Interpolated, choice, another_choice, all_choices, if_else, part_end, part, parts, interpolation, whole, function, word, number, literal, constructor, form_by, form, simple, asserted, assertion}
 use Rattle.luau_grammar.proofs.Agreement.{Bounded, Reached, Complete, CompletePhrases}
 use Rattle.luau_grammar.proofs.Primitives.{Gives, gives_ok, gives_same, gives_then, gives_if_true, gives_if_false, gives_expect, gives_next, expect_complete, string_complete, string_token, number_token, name_token, takes_symbol, takes_sees, takes_not, takes_taken}
@@ -227,9 +225,7 @@ module _ (low : ℕ) (set : Setting) (inner : Phrases) (readers : Readers) (comp
   of_form x p q e h is g =
       gives_if_false _ (ap begins_prefix is ∙ h) (subst (λ z. Gives low p (form_by set readers (start_of p) z p) q e) (sym is) g)
 
-  module _ (bounded : Bounded set) (plain : PlainPhrases inner)
-      (generics : (may : Bool) → Complete low (types.AreGenerics set.rules inner may) (readtypes.generics set readers may))
-      (result : Complete low (types.IsResult set.rules inner) (readtypes.result set readers)) where
+  module _ (bounded : Bounded set) (plain : PlainPhrases inner) where
     constructor_complete : (p q : Place) (items : Items) → low ≤ p.level → IsTable set.rules inner p.level p q items
         → Gives low p (constructor set readers (start_of p) p) q (tree.the_expr 0 (over p q) (tree.TableExpr items))
     unfolding constructor
@@ -243,7 +239,7 @@ module _ (low : ℕ) (set : Setting) (inner : Phrases) (readers : Readers) (comp
     function_complete n p a b q y l h1 h2 h3 =
         gives_then _ (attributes_complete low set inner readers complete p a tt l (n, h1)) (λ k1.
         gives_expect set _ s.Function a b k1 h2 (λ t k2.
-        gives_then _ (body_complete low set inner readers complete generics result bounded plain None b q y k2 h3) (λ k3. gives_ok k3)))
+        gives_then _ (body_complete low set inner readers complete bounded plain None b q y k2 h3) (λ k3. gives_ok k3)))
 
     of_prefix : (p q : Place) (e : Expr) → low ≤ p.level → IsPrefix set.rules inner p q e → begins_suffix q ≡ false
         → Gives low p (simple set readers p) q e

@@ -210,6 +210,7 @@ module _ (low : ℕ) (set : Setting) (inner : Phrases) (readers : Readers) (comp
   -- What is read from a first place on: a prefix, and behind it all that a loop over suffixes reads.
   record Chain (begin q : Place) (e : Expr) : Type 0 where
     reached : Reached low begin q
+    shorter : length q.ahead < length begin.ahead
     goes : (z : Expr) (r : Place) → Loops low set (λ x p. begins_suffix p) (suffix set readers (start_of begin)) e q r z
         → (first : Expr) × (a : Place) × Gives low begin (primary set readers begin) a first
         × Loops low set (λ x p. begins_suffix p) (suffix set readers (start_of begin)) first a r z
@@ -222,11 +223,12 @@ module _ (low : ℕ) (set : Setting) (inner : Phrases) (readers : Readers) (comp
         → Gives low a (suffix set readers (start_of begin) base a) q e → length q.ahead < length a.ahead → Chain begin q e
     extend base e a q c h g less = record {
       reached = reached_then c.reached g.1;
+      shorter = let longer = c.shorter in omega arith;
       goes = λ z r k. c.goes z r (loop_step low set (λ x p. begins_suffix p) (suffix set readers (start_of begin)) base e z a q r h g less k);
     }
 
-    first_of : (e : Expr) (q : Place) → Gives low begin (primary set readers begin) q e → Chain begin q e
-    first_of e q g = record { reached = g.1; goes = λ z r k. (e, q, g, k) }
+    first_of : (e : Expr) (q : Place) → Gives low begin (primary set readers begin) q e → length q.ahead < length begin.ahead → Chain begin q e
+    first_of e q g less = record { reached = g.1; shorter = less; goes = λ z r k. (e, q, g, k) }
 
     index_complete : (base : Expr) (a b q : Place) (name : List ℕ) → low ≤ a.level → Takes set.rules s.Dot a b
         → TakesName set.rules (raised b) q name
@@ -298,6 +300,20 @@ module _ (low : ℕ) (set : Setting) (inner : Phrases) (readers : Readers) (comp
         gives_if_false _ (takes_not set.rules begin q s.Name s.LeftParen refl (name_token set.rules begin q name n))
         (gives_then _ (name_complete set low begin q name l n) (λ k. gives_ok k))
 
+    named_shorter : (q : Place) (name : List ℕ) → TakesName set.rules begin q name → length q.ahead < length begin.ahead
+    named_shorter q name n =
+        let t = takes_taken set.rules begin q s.Name (name_token set.rules begin q name n) in
+        omega arith
+
+    paren_shorter : (a b q : Place) (e : Expr) → low ≤ begin.level → Takes set.rules s.LeftParen begin a → inner.exp a b e
+        → Takes set.rules s.RightParen b q → length q.ahead < length begin.ahead
+    paren_shorter a b q e l h i n =
+        let t = takes_taken set.rules begin a s.LeftParen h in
+        let k : low ≤ a.level = omega arith in
+        let r : Reached low a b = (complete.exp a b e k i).1 in
+        let u = takes_taken set.rules b q s.RightParen n in
+        omega arith
+
     index_shorter : (a b q : Place) (name : List ℕ) → Takes set.rules s.Dot a b → TakesName set.rules (raised b) q name
         → length q.ahead < length a.ahead
     index_shorter a b q name h n =
@@ -332,8 +348,8 @@ module _ (low : ℕ) (set : Setting) (inner : Phrases) (readers : Readers) (comp
 
       chain_form : low ≤ begin.level → (q : Place) (kind : ExprKind) → IsPrefixForm set.rules inner begin q kind
           → Chain begin q (tree.the_expr 0 (over begin q) kind)
-      chain_form l q (tree.NameExpr name) h = first_of _ q (named_complete q name l h)
-      chain_form l q (tree.Paren e) h = first_of _ q (paren_complete h.0 h.1 q e l h.2 h.3 h.4)
+      chain_form l q (tree.NameExpr name) h = first_of _ q (named_complete q name l h) (named_shorter q name h)
+      chain_form l q (tree.Paren e) h = first_of _ q (paren_complete h.0 h.1 q e l h.2 h.3 h.4) (paren_shorter h.0 h.1 q e l h.2 h.3 h.4)
       chain_form l q (tree.Index base name) h =
           let (a, b, h1, h2, h3) = h in
           let c = chain l a base h1 in
@@ -370,3 +386,8 @@ module _ (low : ℕ) (set : Setting) (inner : Phrases) (readers : Readers) (comp
       let c = chain bounded plain p l q e h.0 in
       let (first, a, g, k) = c.goes e q (loop_stop low set (λ x z. begins_suffix z) (suffix set readers (start_of p)) e q h.1 c.reached.level) in
       gives_then _ g (λ m. loop_done low set (λ x z. begins_suffix z) (suffix set readers (start_of p)) first e a q k)
+
+  -- a prefix has a token
+  pub prefix_shorter : Bounded set → PlainPhrases inner → (p q : Place) (e : Expr) → low ≤ p.level → IsPrefix set.rules inner p q e
+      → length q.ahead < length p.ahead
+  prefix_shorter bounded plain p q e l h = (chain bounded plain p l q e h).shorter

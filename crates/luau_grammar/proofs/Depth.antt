@@ -32,11 +32,11 @@ pub record SoundFamilies (set : Setting) : Type 1 where
 
 -- They read all that is in the grammar, where that holds of the phrases in them.
 pub record CompleteFamilies (set : Setting) : Type 1 where
-  pub exp : (low : ℕ) (inner : Phrases) (given : Readers) → PlainPhrases inner → PlainPhrases inner → CompletePhrases low set inner given
+  pub exp : (low : ℕ) (inner : Phrases) (given : Readers) → PlainPhrases inner → CompletePhrases low set inner given
       → Complete low (IsExpression set.rules inner) (expression_inside set given)
-  pub typ : (low : ℕ) (inner : Phrases) (given : Readers) → PlainPhrases inner → PlainPhrases inner → CompletePhrases low set inner given → (begun : Option Listed)
+  pub typ : (low : ℕ) (inner : Phrases) (given : Readers) → PlainPhrases inner → CompletePhrases low set inner given → (begun : Option Listed)
       → Complete low (IsType set.rules inner begun) (type_inside set given begun)
-  pub block : (low : ℕ) (inner : Phrases) (given : Readers) → PlainPhrases inner → PlainPhrases inner → CompletePhrases low set inner given
+  pub block : (low : ℕ) (inner : Phrases) (given : Readers) → PlainPhrases inner → CompletePhrases low set inner given
       → Complete low (IsBlock set.rules inner) (block_inside set given)
 
 flat_block : (set : Setting) (inner : Phrases) → Sound (IsBlock set.rules inner) (too_deep set).block

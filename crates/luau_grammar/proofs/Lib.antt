@@ -10,16 +10,14 @@ pub mod OperatorSteps
 pub mod SoundOperators
 pub mod CompleteOperators
 pub mod PlainPhrases
-pub mod SoundSuffixes
 pub mod SoundBodies
+pub mod SoundSuffixes
 pub mod SoundExpressions
-pub mod CompleteSuffixes
 pub mod CompleteBodies
+pub mod CompleteSuffixes
 pub mod CompleteExpressions
+pub mod ExpressionFamily
 pub mod TakenTokens
-pub mod Begins
-pub mod Depth
-pub mod OneTree
 pub mod StatementParts
 pub mod SoundStatements
 pub mod SoundNamed
@@ -27,3 +25,7 @@ pub mod SoundBlocks
 pub mod CompleteStatements
 pub mod CompleteNamed
 pub mod CompleteBlocks
+pub mod Begins
+pub mod Depth
+pub mod OneTree
+pub mod Families
