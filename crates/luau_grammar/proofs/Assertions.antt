@@ -1,5 +1,5 @@
 -- What the parser `assertion` reads: an operand without operators, `simple ['::' type]`.
-use Rattle.std.specs.Prelude.{◌≡◌, ℕ}
+use Rattle.std.specs.Prelude.{◌≡◌}
 use Rattle.luau_tree.specs.Tree.{Expr, ExprKind}
 use Rattle.luau_tree.specs.Tree as tree
 use Rattle.luau_grammar.specs.Places.{Place, Rules, over}

@@ -1,5 +1,5 @@
 -- Each statement and each block of the grammar is read.
-use Rattle.std.proofs.Common.{◌≡◌, ℕ, zero, suc, ◌≤◌, ◌⊎◌, Bool, true, false, ◌&&◌, ◌||◌, List, [], ◌∷◌, ◌++◌, length, bytes_eq, Ok, inl, inr, refl, sym, ◌∙◌, ap, ap₂, subst, append_assoc, append-nil, arith}
+use Rattle.std.proofs.Common.{◌≡◌, ℕ, zero, suc, ◌≤◌, ◌⊎◌, Bool, true, false, ◌&&◌, ◌||◌, List, [], ◌∷◌, ◌++◌, bytes_eq, Ok, inl, inr, refl, sym, ◌∙◌, ap, ap₂, subst, append_assoc, append-nil, arith}
 use Rattle.std.specs.Prelude.{Option, codes}
 use Rattle.luau_tree.specs.Tree.{Block, Stat, StatKind, Expr, ExprKind, Arms, Bind, Body}
 use Rattle.luau_tree.specs.Tree as tree
@@ -11,16 +11,16 @@ use Rattle.luau_grammar.specs.Places.{Place, symbol, symbol_behind, sees, sees_b
 use Rattle.luau_grammar.specs.Phrases.{Phrases}
 use Rattle.luau_grammar.specs.Expressions as expressions
 use Rattle.luau_grammar.specs.Statements.{begins, closes, is_last, sees_continue, sees_type, sees_export, sees_statement_word, IsVariable, AreArms, IsFunction, IsLocalFunction, IsAlias, IsTypeFunction, IsStatement, IsStatementForm, IsSemicolon, IsBlock, IsBlockBehind}
-use Rattle.luau_grammar.specs.Reading.{Setting, Readers, eat, repeats}
+use Rattle.luau_grammar.specs.Reading.{Setting, Readers, eat}
 use Rattle.luau_grammar.specs.ReadStatements as code
 use Rattle.luau_grammar.proofs.Agreement.{Bounded, Reached, Complete, CompletePhrases}
-use Rattle.luau_grammar.proofs.Primitives.{Reads, reads_ok, reads_err, reads_if, reads_then, bind_by, symbol_sees, sees_by, word_sees, word_not, name_token, phrase_sound, phrase_complete, Gives}
+use Rattle.luau_grammar.proofs.Primitives.{bind_by, symbol_sees, sees_by}
 use Rattle.luau_grammar.proofs.SoundNamed.{attributes_level}
 use Rattle.std.proofs.lemmas.Bool.{and_parts}
 use Rattle.std.proofs.lemmas.Slice.Eq.{bytes_eq-Decides}
 use Rattle.luau_grammar.proofs.SoundLists.{separated_split}
-use Rattle.luau_grammar.proofs.TakenTokens.{TakenAs, TakenName, yes_branch, no_branch, takes_reads, name_reads, raise_reads}
-use Rattle.luau_grammar.proofs.CompleteLists.{separated_from_complete, separated_complete, loop_stop, loop_step, loop_done, Loops}
+use Rattle.luau_grammar.proofs.TakenTokens.{yes_branch, no_branch, takes_reads, name_reads}
+use Rattle.luau_grammar.proofs.CompleteLists.{loop_stop, loop_step, loop_done, Loops}
 use Rattle.luau_grammar.proofs.CompleteStatements.{Passed, reached, assign_reads, compound_reads, call_reads, do_reads, while_reads, repeat_reads, if_reads, numeric_reads, generic_reads}
 use Rattle.luau_grammar.proofs.CompleteNamed.{function_reads, local_function_reads, local_reads, alias_reads, type_function_reads, return_reads}
 use Rattle.luau_grammar.proofs.StatementParts.{CompleteParts}

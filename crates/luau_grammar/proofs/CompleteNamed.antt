@@ -1,5 +1,5 @@
 -- Each function, local statement and alias of the grammar is read.
-use Rattle.std.proofs.Common.{◌≡◌, ℕ, suc, ◌+◌, ◌-◌, ◌≤◌, ◌⊎◌, Bool, true, false, List, length, Ok, inl, inr, refl, sym, ◌∙◌, ap, ap₂, subst, arith, ◌∷◌}
+use Rattle.std.proofs.Common.{◌≡◌, ℕ, suc, ◌≤◌, ◌⊎◌, Bool, true, false, List, length, Ok, inl, inr, refl, sym, ◌∙◌, ap, ap₂, subst, arith, ◌∷◌}
 use Rattle.std.specs.Prelude.{Option, Some, None}
 use Rattle.luau_tree.specs.declared.position.Span.{Span}
 use Rattle.luau_tree.specs.Tree.{Stat, Expr, Exprs, ExprKind, Bind, Binds, Body, Gens, TypeSyntax}
@@ -11,13 +11,13 @@ use Rattle.luau_grammar.specs.Phrases.{Phrases}
 use Rattle.luau_grammar.specs.Types as types
 use Rattle.luau_grammar.specs.Expressions as expressions
 use Rattle.luau_grammar.specs.Statements.{IsPath, IsMethodName, AreBinds, AreValues, IsReturn}
-use Rattle.luau_grammar.specs.Reading.{Setting, Parser, Outcome, Readers, repeats}
+use Rattle.luau_grammar.specs.Reading.{Setting, Readers}
 use Rattle.luau_grammar.specs.ReadExpressions as values
 use Rattle.luau_grammar.specs.ReadStatements as code
 use Rattle.luau_grammar.proofs.Agreement.{Bounded, Reached, CompletePhrases}
-use Rattle.luau_grammar.proofs.Primitives.{Reads, reads_ok, reads_err, reads_if, reads_then, bind_by, symbol_sees, sees_by, word_sees, word_not, name_token, phrase_sound, phrase_complete, Gives}
-use Rattle.luau_grammar.proofs.TakenTokens.{TakenAs, TakenName, yes_branch, no_branch, takes_reads, name_reads, raise_reads}
-use Rattle.luau_grammar.proofs.CompleteLists.{separated_from_complete, separated_complete, loop_stop, loop_step, loop_done, Loops}
+use Rattle.luau_grammar.proofs.Primitives.{bind_by, symbol_sees, sees_by}
+use Rattle.luau_grammar.proofs.TakenTokens.{TakenName, yes_branch, no_branch, takes_reads, name_reads, raise_reads}
+use Rattle.luau_grammar.proofs.CompleteLists.{separated_complete, loop_stop, loop_step, loop_done, Loops}
 use Rattle.luau_grammar.proofs.CompleteStatements.{Passed, reached, several_read}
 use Rattle.luau_grammar.proofs.StatementParts.{CompleteParts}
 
@@ -41,10 +41,11 @@ module _ (low : ℕ) (set : Setting) (bounded : Bounded set) (inner : Phrases) (
   unfolding values.index
   index_reads p a b q id span base n l t h e f =
       let dot = takes_reads set s.Dot a b bounded t in
-      let word = name_reads set (raised b) q n bounded h in
-      (bind_by _ _ dot.expected (bind_by _ _ (raise_reads set b (let l = dot.level in let m = dot.within in omega arith))
-          (bind_by _ _ word.named (ap₂ (λ i z. Ok (tree.the_expr i z (tree.Index base n), q)) (sym e) (sym f)))),
-        record { level = (let m = dot.level in let o = word.level in omega arith); ahead = (let m = dot.ahead in let o = word.ahead in omega arith) })
+      let word = name_reads set (raised b) q n bounded h in (
+        bind_by _ _ dot.expected (bind_by _ _ (raise_reads set b (let l = dot.level in let m = dot.within in omega arith))
+            (bind_by _ _ word.named (ap₂ (λ i z. Ok (tree.the_expr i z (tree.Index base n), q)) (sym e) (sym f)))),
+        record { level = (let m = dot.level in let o = word.level in omega arith); ahead = (let m = dot.ahead in let o = word.ahead in omega arith) },
+      )
 
   path_read : (p q : Place) (e : Expr) → low ≤ p.level → IsPath set.rules inner p q e → PathRead p q e
   unfolding values.name_expression
@@ -80,9 +81,10 @@ module _ (low : ℕ) (set : Setting) (bounded : Bounded set) (inner : Phrases) (
   path_reads p q e l h n =
       let found = path_read p q e l h in
       let rest = loop_done low set (λ _ w. sees s.Dot w) (values.index set given (start_of p)) found.first e found.begin q
-          (found.reads q e (loop_stop low set _ _ e q n found.level)) in
-      (bind_by _ _ found.named rest.0,
-        record { level = found.level; ahead = (let f = rest.1.ahead in let g = found.begun in omega arith) })
+      (found.reads q e (loop_stop low set _ _ e q n found.level)) in (
+        bind_by _ _ found.named rest.0,
+        record { level = found.level; ahead = (let f = rest.1.ahead in let g = found.begun in omega arith) },
+      )
 
   method_name_reads : (p q : Place) (n : Option (List ℕ)) (span : Option Span) → low ≤ p.level → IsMethodName set.rules inner p q n span
       → (code.method_name set given p ≡ Ok (record { name = n; span = span }, q)) × Reached low p q

@@ -1,5 +1,5 @@
 -- Each statement of the grammar is read: assignments, calls, blocks, loops.
-use Rattle.std.proofs.Common.{◌≡◌, ℕ, zero, suc, ◌≤◌, true, false, List, [], ◌∷◌, ◌++◌, length, Ok, refl, sym, ◌∙◌, ap, ap₂, subst, append_assoc, arith}
+use Rattle.std.proofs.Common.{◌≡◌, ℕ, suc, ◌≤◌, true, false, List, [], ◌∷◌, ◌++◌, length, Ok, refl, sym, ◌∙◌, ap, ap₂, subst, append_assoc, arith}
 use Rattle.std.specs.Prelude.{Some, None}
 use Rattle.luau_tree.specs.declared.names.BinOp.{BinOp}
 use Rattle.luau_tree.specs.Tree.{Block, Stat, Expr, Exprs, MaybeExpr, MaybeBlock, Arms, Bind, Binds}
@@ -13,14 +13,14 @@ use Rattle.luau_grammar.specs.Operators.{compound_of}
 use Rattle.luau_grammar.specs.Phrases.{Phrases}
 use Rattle.luau_grammar.specs.Expressions as expressions
 use Rattle.luau_grammar.specs.Statements.{is_variable, is_call, IsOwnPrefix, IsVariable, IsAssign, AreArms, IsElse, IsIf, IsDo, IsStep, IsNumericFor, IsGenericFor}
-use Rattle.luau_grammar.specs.Reading.{Setting, Readers, repeats, separated_from}
+use Rattle.luau_grammar.specs.Reading.{Setting, Readers, separated_from}
 use Rattle.luau_grammar.specs.ReadExpressions as values
 use Rattle.luau_grammar.specs.ReadStatements as code
 use Rattle.luau_grammar.proofs.Agreement.{Bounded, Reached, Complete, CompletePhrases}
-use Rattle.luau_grammar.proofs.Primitives.{Reads, reads_ok, reads_err, reads_if, reads_then, bind_by, symbol_sees, sees_by, word_sees, word_not, name_token, phrase_sound, phrase_complete, Gives, gives_same}
+use Rattle.luau_grammar.proofs.Primitives.{bind_by, symbol_sees, sees_by, gives_same}
 use Rattle.luau_grammar.proofs.SoundLists.{AreMore, separated_split}
-use Rattle.luau_grammar.proofs.TakenTokens.{TakenAs, TakenName, yes_branch, no_branch, takes_reads, name_reads, raise_reads}
-use Rattle.luau_grammar.proofs.CompleteLists.{separated_from_complete, separated_complete, loop_stop, loop_step, loop_done, Loops}
+use Rattle.luau_grammar.proofs.TakenTokens.{yes_branch, no_branch, takes_reads}
+use Rattle.luau_grammar.proofs.CompleteLists.{separated_from_complete, loop_stop, loop_step, loop_done, Loops}
 use Rattle.luau_grammar.proofs.StatementParts.{CompleteParts}
 
 -- A place behind another, at this level or deeper, with a token between them.
@@ -187,15 +187,15 @@ module _ (low : ℕ) (set : Setting) (bounded : Bounded set) (inner : Phrases) (
       let one = one_arm_reads found y a q h.0 h.1 h.2 l h.3 h.4 h.5 h.6 in
       let word = takes_reads set s.ElseIf a h.0 bounded h.3 in
       loop_step low set _ _ found (found ++ y ∷ []) (found ++ y ∷ []) a q q (symbol_sees s.ElseIf a word.symbol)
-          (one.0, reached one.1) one.1.ahead
-          (loop_stop low set _ _ (found ++ y ∷ []) q h.7 one.1.level)
+      (one.0, reached one.1) one.1.ahead
+      (loop_stop low set _ _ (found ++ y ∷ []) q h.7 one.1.level)
   more_arms_read (z ∷ zs) found y a q l h =
       let one = one_arm_reads found y a h.3 h.0 h.1 h.2 l h.4 h.5 h.6 h.7 in
       let word = takes_reads set s.ElseIf a h.0 bounded h.4 in
       λ turns enough. gives_same (append_assoc found (y ∷ []) (z ∷ zs))
-          (loop_step low set _ _ found (found ++ y ∷ []) ((found ++ y ∷ []) ++ z ∷ zs) a h.3 q (symbol_sees s.ElseIf a word.symbol)
-              (one.0, reached one.1) one.1.ahead
-              (more_arms_read zs (found ++ y ∷ []) z h.3 q one.1.level h.8) turns enough)
+      (loop_step low set _ _ found (found ++ y ∷ []) ((found ++ y ∷ []) ++ z ∷ zs) a h.3 q (symbol_sees s.ElseIf a word.symbol)
+      (one.0, reached one.1) one.1.ahead
+      (more_arms_read zs (found ++ y ∷ []) z h.3 q one.1.level h.8) turns enough)
 
   arms_behind : (more : List (Expr × Block)) (arm : Expr × Block) (p q : Place) → low ≤ p.level → AreArms set.rules inner s.If p q arm more
       → (code.all_arms set given p ≡ Ok (arms (arm ∷ more), q)) × Passed low p q
@@ -203,14 +203,15 @@ module _ (low : ℕ) (set : Setting) (bounded : Bounded set) (inner : Phrases) (
   arms_behind [] arm p q l h =
       let one = arm_reads s.If p q h.0 h.1 h.2 arm l h.3 h.4 h.5 h.6 in
       let rest = loop_done low set (λ _ z. sees s.ElseIf z) (code.another_arm set given) (arm ∷ []) (arm ∷ []) q q
-          (loop_stop low set _ _ (arm ∷ []) q h.7 one.1.level) in
+      (loop_stop low set _ _ (arm ∷ []) q h.7 one.1.level) in
       (bind_by _ _ one.0 (bind_by _ _ rest.0 refl), one.1)
   arms_behind (other ∷ more) arm p q l h =
       let one = arm_reads s.If p h.3 h.0 h.1 h.2 arm l h.4 h.5 h.6 h.7 in
       let rest = loop_done low set (λ _ z. sees s.ElseIf z) (code.another_arm set given) (arm ∷ []) (arm ∷ other ∷ more) h.3 q
-          (more_arms_read more (arm ∷ []) other h.3 q one.1.level h.8) in
-      (bind_by _ _ one.0 (bind_by _ _ rest.0 refl),
-        record { level = rest.1.level; ahead = (let n = one.1.ahead in let o = rest.1.ahead in omega arith) })
+      (more_arms_read more (arm ∷ []) other h.3 q one.1.level h.8) in (
+        bind_by _ _ one.0 (bind_by _ _ rest.0 refl),
+        record { level = rest.1.level; ahead = (let n = one.1.ahead in let o = rest.1.ahead in omega arith) },
+      )
 
   else_reads : (p q : Place) (last : MaybeBlock) → low ≤ p.level → IsElse set.rules inner p q last
       → (code.maybe_else set given p ≡ Ok (last, q)) × Reached low p q

@@ -1,8 +1,8 @@
 -- The induction on how deep phrases stand in one another, and what follows for modules.
 use Rattle.std.proofs.Common.{ℕ, zero, suc, ◌+◌, ◌≤◌, refl, arith}
 use Rattle.std.specs.Prelude.{Option, Some, None}
-use Rattle.luau_tree.specs.Tree.{no_stats}
-use Rattle.luau_grammar.specs.Places.{symbol, raised}
+use Rattle.luau_tree.specs.Tree.{Expr}
+use Rattle.luau_grammar.specs.Places.{Place, symbol, raised}
 use Rattle.luau_grammar.specs.Phrases.{Phrases, Listed}
 use Rattle.luau_grammar.specs.Types.{IsType}
 use Rattle.luau_grammar.specs.Expressions.{IsExpression}
@@ -16,10 +16,9 @@ use Rattle.luau_grammar.specs.ReadExpressions.{expression_inside}
 use Rattle.luau_grammar.specs.ReadStatements.{block_inside}
 use Rattle.luau_grammar.specs.ReadModules.{too_deep, readers}
 use Rattle.luau_grammar.proofs.Agreement.{Bounded, Sound, Complete, SoundPhrases, CompletePhrases}
-use Rattle.luau_grammar.proofs.Primitives.{Reads, reads_ok, reads_err, reads_if, reads_then, bind_by, symbol_sees, sees_by, word_sees, word_not, name_token, phrase_sound, phrase_complete, Gives}
-use Rattle.luau_grammar.proofs.TakenTokens.{TakenAs, TakenName, yes_branch, no_branch, takes_reads, name_reads, raise_reads}
-use Rattle.luau_grammar.proofs.PlainPhrases.{PlainPhrases, phrases_plain}
-use Rattle.luau_grammar.proofs.Begins.{level_within, expression_begins, type_begins}
+use Rattle.luau_grammar.proofs.Primitives.{takes_bounded, reads_ok, reads_err, reads_if, phrase_sound, phrase_complete}
+use Rattle.luau_grammar.proofs.PlainPhrases.{PlainPhrases, expression_begins, phrases_plain}
+use Rattle.luau_grammar.proofs.CompleteTypes.{type_bounded}
 
 -- What the parsers of the phrases' insides read is in the grammar, where that holds of the phrases in them.
 pub record SoundFamilies (set : Setting) : Type 1 where
@@ -38,6 +37,13 @@ pub record CompleteFamilies (set : Setting) : Type 1 where
       → Complete low (IsType set.rules inner begun) (type_inside set given begun)
   pub block : (low : ℕ) (inner : Phrases) (given : Readers) → PlainPhrases inner → CompletePhrases low set inner given
       → Complete low (IsBlock set.rules inner) (block_inside set given)
+
+-- an expression begins with a token, so at a level up to the limit
+expression_bounded : (set : Setting) (inner : Phrases) → Bounded set → (p q : Place) (e : Expr) → IsExpression set.rules inner p q e
+    → p.level ≤ set.limit
+expression_bounded set inner bounded p q e h =
+    let first = expression_begins set.rules inner p q e h in
+    takes_bounded set p first.behind first.first bounded first.takes
 
 flat_block : (set : Setting) (inner : Phrases) → Sound (IsBlock set.rules inner) (too_deep set).block
 unfolding too_deep
@@ -81,8 +87,8 @@ complete_flat : (set : Setting) → Bounded set → (held low : ℕ) → set.lim
 complete_flat set bounded held low e =
     let inner = phrases set.rules held in
     record {
-      exp = λ p q x l h. too_low set low p.level e l (let m = level_within set (raised p) bounded (expression_begins set.rules inner (raised p) h.0 x h.1) in omega arith);
-      typ = λ p q x l h. too_low set low p.level e l (let m = level_within set (raised p) bounded (type_begins set.rules inner (raised p) h.0 x h.1) in omega arith);
+      exp = λ p q x l h. too_low set low p.level e l (let m = expression_bounded set inner bounded (raised p) h.0 x h.1 in omega arith);
+      typ = λ p q x l h. too_low set low p.level e l (let m = type_bounded set inner bounded (raised p) h.0 x h.1 in omega arith);
       begun = λ b p q x l h. too_low set low p.level e l h.0;
       block = λ p q x l h. too_low set low p.level e l h.0;
     }
@@ -100,10 +106,10 @@ complete_at set bounded all (suc deep) (suc held) low e =
     let below = complete_at set bounded all deep held (low + 1) (omega arith) in
     record {
       exp = λ p q x l h.
-          let m = level_within set (raised p) bounded (expression_begins set.rules inner (raised p) h.0 x h.1) in
+          let m = expression_bounded set inner bounded (raised p) h.0 x h.1 in
           phrase_complete set low _ _ (all.exp (low + 1) inner given plain below) p q x l (omega arith, h);
       typ = λ p q x l h.
-          let m = level_within set (raised p) bounded (type_begins set.rules inner (raised p) h.0 x h.1) in
+          let m = type_bounded set inner bounded (raised p) h.0 x h.1 in
           phrase_complete set low _ _ (all.typ (low + 1) inner given plain below None) p q x l (omega arith, h);
       begun = λ b. phrase_complete set low _ _ (all.typ (low + 1) inner given plain below (Some b));
       block = phrase_complete set low _ _ (all.block (low + 1) inner given plain below);

@@ -25,7 +25,6 @@ pub mod SoundBlocks
 pub mod CompleteStatements
 pub mod CompleteNamed
 pub mod CompleteBlocks
-pub mod Begins
 pub mod Depth
 pub mod OneTree
 pub mod Families

@@ -10,11 +10,10 @@ use Rattle.luau_grammar.specs.Symbols.{same, look_up, words, signs, symbol_by, s
 use Rattle.luau_grammar.specs.Places.{Place, first_symbol, symbol, sees}
 use Rattle.luau_grammar.specs.Modules.{phrases, before, IsBare}
 use Rattle.luau_grammar.specs.Reading.{Setting, Outcome}
-use Rattle.luau_grammar.specs.ReadPhrases as parse
-use Rattle.luau_grammar.specs.ReadModules.{readers, module_with}
+use Rattle.luau_grammar.specs.ReadModules.{module_with}
 use Rattle.luau_grammar.proofs.Agreement.{Bounded}
-use Rattle.luau_grammar.proofs.Primitives.{Reads, reads_ok, reads_err, reads_if, reads_then, bind_by, symbol_sees, sees_by, word_sees, word_not, name_token, phrase_sound, phrase_complete, Gives}
-use Rattle.luau_grammar.proofs.TakenTokens.{TakenAs, TakenName, yes_branch, no_branch, takes_reads, name_reads, raise_reads}
+use Rattle.luau_grammar.proofs.Primitives.{Reads, reads_ok, reads_err, reads_if, reads_then, bind_by}
+use Rattle.luau_grammar.proofs.TakenTokens.{yes_branch}
 use Rattle.luau_grammar.proofs.Depth.{SoundFamilies, CompleteFamilies, sound_at, complete_at}
 
 -- no entry of a table is the end of the text

@@ -1,23 +1,21 @@
 -- What the parsers of statements and blocks read is in the grammar.
-use Rattle.std.proofs.Common.{◌≡◌, ℕ, zero, suc, Bool, true, false, not, ◌&&◌, ◌||◌, List, [], ◌∷◌, ◌++◌, length, bytes_eq, inl, inr, refl, sym, ◌∙◌, ap, ap₂, subst, append_assoc, append-nil}
+use Rattle.std.proofs.Common.{◌≡◌, ℕ, Bool, true, false, not, ◌&&◌, ◌||◌, List, [], ◌∷◌, ◌++◌, bytes_eq, inl, inr, refl, sym, ◌∙◌, ap, ap₂, subst, append_assoc, append-nil}
 use Rattle.std.specs.Prelude.{codes}
 use Rattle.std.proofs.lemmas.Bool.{and_parts}
 use Rattle.luau_tree.specs.Tree.{Block, Stat, StatKind}
 use Rattle.luau_tree.specs.Tree as tree
 use Rattle.luau_tree.specs.View.{stats}
-use Rattle.luau_lex.specs.Tokens.{Tok}
 use Rattle.luau_grammar.specs.declared.symbol.Symbol.{Symbol}
 use Rattle.luau_grammar.specs.declared.symbol.Symbol.TheVariants as s
 use Rattle.luau_grammar.specs.Symbols.{same}
-use Rattle.luau_grammar.specs.Places.{Place, Rules, symbol, symbol_behind, sees, sees_behind, sees_word, first_bytes, first_symbol, second_symbol, start_of, IsNext, Takes, TakesName}
+use Rattle.luau_grammar.specs.Places.{Place, Rules, symbol, symbol_behind, sees_behind, sees_word, first_bytes, start_of, Takes}
 use Rattle.luau_grammar.specs.Phrases.{Phrases}
-use Rattle.luau_grammar.specs.Statements as statements
-use Rattle.luau_grammar.specs.Statements.{begins, closes, is_last, sees_continue, sees_type, sees_export, sees_statement_word, second_bytes, IsTypeWord, IsStatement, IsSemicolon, IsBlock, IsBlockBehind}
-use Rattle.luau_grammar.specs.Reading.{Setting, Readers, and_then, next, eat, repeats}
+use Rattle.luau_grammar.specs.Statements.{begins, closes, is_last, sees_continue, sees_type, sees_export, sees_statement_word, second_bytes, IsStatement, IsSemicolon, IsBlock, IsBlockBehind}
+use Rattle.luau_grammar.specs.Reading.{Setting, Readers, and_then, next}
 use Rattle.luau_grammar.specs.ReadStatements as code
 use Rattle.luau_grammar.proofs.Agreement.{Sound, SoundPhrases}
-use Rattle.luau_grammar.proofs.SoundLists.{Adds, Separated, repeat_sound, separated_from_sound, separated_join, separated_sound}
-use Rattle.luau_grammar.proofs.Primitives.{Reads, reads_ok, reads_err, reads_if, reads_then, reads_weaker, sees_symbol, symbol_sees, sees_by, IsEaten, next_symbol, takes_behind, name_token, word_not_name, next_sound, expect_sound, next_seen, next_word, eat_sound, name_sound, raise_sound}
+use Rattle.luau_grammar.proofs.SoundLists.{repeat_sound}
+use Rattle.luau_grammar.proofs.Primitives.{Reads, reads_ok, reads_err, reads_if, reads_then, symbol_sees, sees_by, IsEaten, takes_behind, name_token, word_not_name, next_seen, next_word, eat_sound}
 use Rattle.luau_grammar.proofs.SoundStatements.{prefix_statement_sound, do_sound, while_sound, repeat_statement_sound, if_sound, for_sound}
 use Rattle.luau_grammar.proofs.SoundNamed.{function_sound, local_sound, attributed_sound, type_sound, return_sound}
 use Rattle.luau_grammar.proofs.StatementParts.{SoundParts}
@@ -31,7 +29,7 @@ unfolding sees_word Takes
 type_behind rules p a n h =
     let behind = (and_parts (sees_word (codes "export") p) (sees_behind s.Name p && bytes_eq (second_bytes p.ahead) (codes "type")) h).1 in
     ap₂ (λ x y. x && bytes_eq y (codes "type")) (sym (takes_behind rules p a s.Name s.Name n))
-        (ap (λ (z : Place). first_bytes z.ahead) n.2.3 ∙ sym (ap second_bytes n.2.1))
+    (ap (λ (z : Place). first_bytes z.ahead) n.2.3 ∙ sym (ap second_bytes n.2.1))
     ∙ behind
 
 module _ (set : Setting) (inner : Phrases) (given : Readers) (held : SoundPhrases set inner given) (parts : SoundParts set inner given) where
@@ -61,7 +59,7 @@ module _ (set : Setting) (inner : Phrases) (given : Readers) (held : SoundPhrase
       reads_if (sees_continue p) (λ e. continue_sound p e) (λ c.
       reads_if (sees_type p)
       (λ e. type_sound set inner given held parts p p false
-          (and_parts (sees_word (codes "type") p) (sees_behind s.Name p || sees_behind s.Function p) e).0 (λ b n. (e, n)))
+      (and_parts (sees_word (codes "type") p) (sees_behind s.Name p || sees_behind s.Function p) e).0 (λ b n. (e, n)))
       (λ t.
       reads_if (sees_export p) (λ e. exported_sound p e) (λ x.
       prefix_statement_sound set inner given held parts p (none_of (sees_continue p) (sees_type p) (sees_export p) c t x))))
@@ -126,11 +124,12 @@ module _ (set : Setting) (inner : Phrases) (given : Readers) (held : SoundPhrase
   one_more : (x y z : code.Statements) (p b q : Place) → code.goes_statements set given x p ≡ true → OneStatement x p b y → AreBehind y b q z
       → AreBehind x p q z
   one_more x y z p b q go h k =
-      let behind = subst (λ (w : code.Statements). IsBlockBehind set.rules inner w.ended b q (stats k.0)) h.2 k.2 in
-      (h.0 ∷ k.0,
+      let behind = subst (λ (w : code.Statements). IsBlockBehind set.rules inner w.ended b q (stats k.0)) h.2 k.2 in (
+        h.0 ∷ k.0,
         k.1 ∙ ap (λ (w : code.Statements). w.found ++ k.0) h.2 ∙ append_assoc x.found (h.0 ∷ []) k.0,
         subst (λ e. IsBlockBehind set.rules inner e p q (tree.more_stats h.0 (stats k.0))) (sym (not_ended x.ended (begins (symbol p)) go))
-            (h.1, b, h.3, h.4, behind))
+            (h.1, b, h.3, h.4, behind),
+      )
 
   whole : (p q : Place) (ys : List Stat) → IsBlockBehind set.rules inner false p q (stats ys) → IsBlock set.rules inner p q (stats ys)
   whole p q [] h = h

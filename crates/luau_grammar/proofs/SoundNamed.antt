@@ -1,24 +1,21 @@
 -- What the parsers of functions, locals and aliases read is in the grammar.
-use Rattle.std.proofs.Common.{◌≡◌, ℕ, zero, suc, ◌⊎◌, Bool, true, false, List, [], ◌∷◌, length, inl, inr, refl, ◌∙◌, ap, subst}
+use Rattle.std.proofs.Common.{◌≡◌, ℕ, zero, suc, ◌⊎◌, Bool, true, false, List, [], ◌∷◌, inl, inr, refl, ◌∙◌, ap, subst}
 use Rattle.std.specs.Prelude.{None, codes}
 use Rattle.luau_tree.specs.Tree.{Stat, Expr, Exprs, Bind}
 use Rattle.luau_tree.specs.Tree as tree
 use Rattle.luau_tree.specs.View.{binds}
-use Rattle.luau_lex.specs.Tokens.{Tok}
 use Rattle.luau_grammar.specs.declared.symbol.Symbol.{Symbol}
 use Rattle.luau_grammar.specs.declared.symbol.Symbol.TheVariants as s
-use Rattle.luau_grammar.specs.Places.{Place, Rules, symbol, sees, sees_word, start_of, over, at_level, IsNext, Takes, TakesName}
+use Rattle.luau_grammar.specs.Places.{Place, Rules, symbol, sees, sees_word, start_of, over, at_level, Takes, TakesName}
 use Rattle.luau_grammar.specs.Phrases.{Phrases}
 use Rattle.luau_grammar.specs.Expressions as expressions
 use Rattle.luau_grammar.specs.Statements.{IsPath, IsMethodName, AreBinds, AreValues, IsTypeWord, IsStatement}
-use Rattle.luau_grammar.specs.Reading.{Setting, Readers, next, expect, name, raise, separated}
-use Rattle.luau_grammar.specs.ReadPhrases as parse
-use Rattle.luau_grammar.specs.ReadTypes as written
+use Rattle.luau_grammar.specs.Reading.{Setting, Readers}
 use Rattle.luau_grammar.specs.ReadExpressions as values
 use Rattle.luau_grammar.specs.ReadStatements as code
 use Rattle.luau_grammar.proofs.Agreement.{Sound, SoundPhrases}
-use Rattle.luau_grammar.proofs.Primitives.{Reads, reads_ok, reads_err, reads_if, reads_then, reads_weaker, sees_symbol, symbol_sees, sees_by, IsEaten, next_symbol, takes_behind, name_token, word_not_name, next_sound, expect_sound, next_seen, next_word, eat_sound, name_sound, raise_sound}
-use Rattle.luau_grammar.proofs.SoundLists.{Adds, Separated, repeat_sound, separated_from_sound, separated_join, separated_sound}
+use Rattle.luau_grammar.proofs.Primitives.{Reads, reads_ok, reads_if, reads_then, reads_weaker, expect_sound, next_word, name_sound, raise_sound}
+use Rattle.luau_grammar.proofs.SoundLists.{Separated, repeat_sound, separated_sound}
 use Rattle.luau_grammar.proofs.StatementParts.{SoundParts}
 
 pub takes_level : (rules : Rules) (x : Symbol) (p q : Place) → Takes rules x p q → q.level ≡ p.level

@@ -1,24 +1,22 @@
 -- What the parsers of statements read is in the grammar: all but names that may be words, and blocks.
-use Rattle.std.proofs.Common.{◌≡◌, ℕ, zero, suc, true, false, List, [], ◌∷◌, ◌++◌, length, refl, sym, ◌∙◌, ap, subst, append_assoc, append-nil}
+use Rattle.std.proofs.Common.{◌≡◌, true, false, List, [], ◌∷◌, ◌++◌, refl, sym, ◌∙◌, ap, subst, append_assoc, append-nil}
 use Rattle.std.specs.Prelude.{Option, Some, None}
 use Rattle.luau_tree.specs.declared.names.BinOp.{BinOp}
-use Rattle.luau_tree.specs.Tree.{Block, Stat, Expr, Exprs, MaybeExpr, MaybeBlock, Arms, Bind}
-use Rattle.luau_tree.specs.Tree as tree
+use Rattle.luau_tree.specs.Tree.{Block, Expr, Bind}
 use Rattle.luau_tree.specs.View.{exprs, binds, arms}
 use Rattle.luau_grammar.specs.declared.symbol.Symbol.{Symbol}
 use Rattle.luau_grammar.specs.declared.symbol.Symbol.TheVariants as s
-use Rattle.luau_grammar.specs.Places.{Place, symbol, sees, start_of, at_level, Takes}
+use Rattle.luau_grammar.specs.Places.{Place, symbol, sees, start_of, Takes}
 use Rattle.luau_grammar.specs.Operators.{compound_of}
 use Rattle.luau_grammar.specs.Phrases.{Phrases}
 use Rattle.luau_grammar.specs.Expressions as expressions
 use Rattle.luau_grammar.specs.Statements.{is_variable, is_call, sees_statement_word, IsOwnPrefix, IsVariable, AreArms, IsElse, IsDo, IsStep, IsStatement}
-use Rattle.luau_grammar.specs.Reading.{Setting, Readers, next, expect, repeats, separated_from}
-use Rattle.luau_grammar.specs.ReadPhrases as parse
+use Rattle.luau_grammar.specs.Reading.{Setting, Readers}
 use Rattle.luau_grammar.specs.ReadExpressions as values
 use Rattle.luau_grammar.specs.ReadStatements as code
-use Rattle.luau_grammar.proofs.Agreement.{Sound, SoundPhrases}
-use Rattle.luau_grammar.proofs.Primitives.{Reads, reads_ok, reads_err, reads_if, reads_then, reads_weaker, sees_symbol, symbol_sees, sees_by, IsEaten, next_symbol, takes_behind, name_token, word_not_name, next_sound, expect_sound, next_seen, next_word, eat_sound, name_sound, raise_sound}
-use Rattle.luau_grammar.proofs.SoundLists.{Adds, Separated, repeat_sound, separated_from_sound, separated_join, separated_sound}
+use Rattle.luau_grammar.proofs.Agreement.{SoundPhrases}
+use Rattle.luau_grammar.proofs.Primitives.{Reads, reads_ok, reads_err, reads_if, reads_then, next_symbol, next_sound, expect_sound}
+use Rattle.luau_grammar.proofs.SoundLists.{Adds, repeat_sound, separated_from_sound, separated_join}
 use Rattle.luau_grammar.proofs.StatementParts.{SoundParts}
 
 module _ (set : Setting) (inner : Phrases) (given : Readers) (held : SoundPhrases set inner given) (parts : SoundParts set inner given) where
@@ -144,7 +142,7 @@ module _ (set : Setting) (inner : Phrases) (given : Readers) (held : SoundPhrase
 
   all_arms_sound : (p : Place)
       → Reads (λ q all. (arm : Expr × Block) × (more : List (Expr × Block)) × AreArms set.rules inner s.If p q arm more × (all ≡ arms (arm ∷ more)))
-          (code.all_arms set given p)
+      (code.all_arms set given p)
   unfolding code.all_arms
   all_arms_sound p =
       reads_then (arm_sound s.If p) (λ a x i.
