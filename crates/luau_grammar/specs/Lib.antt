@@ -13,3 +13,4 @@ pub mod ReadTypes
 pub mod ReadExpressions
 pub mod ReadStatements
 pub mod ReadModules
+pub mod Laws

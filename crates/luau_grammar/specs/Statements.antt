@@ -1,8 +1,7 @@
 -- Statements and blocks: which tokens each form is.
-use Rattle.std.specs.Prelude.{◌≡◌, ℕ, ◌+◌, Bool, true, false, ◌||◌, ◌&&◌, ◌⊎◌, List, [], ◌∷◌, Option, Some, None, codes}
+use Rattle.std.specs.Prelude.{◌≡◌, ℕ, Bool, true, false, ◌||◌, ◌&&◌, ◌⊎◌, List, [], ◌∷◌, Option, Some, None, codes}
 use Rattle.std.specs.Str.{bytes_eq}
 use Rattle.luau_tree.specs.declared.position.Span.{Span}
-use Rattle.luau_tree.specs.declared.names.BinOp.{BinOp}
 use Rattle.luau_tree.specs.Tree.{Block, Stat, StatKind, Arms, MaybeBlock, Expr, Exprs, MaybeExpr, ExprKind, Bind, Binds, Gens, TypeSyntax}
 use Rattle.luau_tree.specs.Tree as tree
 use Rattle.luau_lex.specs.Tokens.{Tok}

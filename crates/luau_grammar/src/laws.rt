@@ -1,28 +1,24 @@
 //! What follows from the grammar, for every list of tokens.
-ghost use Rattle.std.specs.Prelude.{◌≡◌, ℕ, ◌≤◌, true, List, Ok};
+ghost use Rattle.std.specs.Prelude.{ℕ, List};
 ghost use Rattle.luau_tree.specs.Tree.{Block};
 ghost use Rattle.luau_lex.specs.Tokens.{Tok};
-ghost use Rattle.luau_grammar.specs.Places.{Place, Rules};
-ghost use Rattle.luau_grammar.specs.Modules.{IsBare, before, strict, up_to};
-ghost use Rattle.luau_grammar.specs.Reading.{strictly};
-ghost use Rattle.luau_grammar.specs.ReadModules.{module_with, max_depth};
+ghost use Rattle.luau_grammar.specs.Places.{Rules};
+ghost use Rattle.luau_grammar.specs.Modules.{IsBare, strict, up_to};
+ghost use Rattle.luau_grammar.specs.Laws.{IsRead, StandUpTo, HasOneTreeAtMost};
 
-/// The program's parser is the grammar: what it reads is the tree of the tokens, and each tree is read.
-pub fn parser_reads_the_grammar()
-    ensures sound { (text : List ℕ) (ts : List Tok) (b : Block) (q : Place) →
-        module_with (strictly text) max_depth (before ts) ≡ Ok (b, q) → IsBare (strict text) ts b }
-    ensures complete { (text : List ℕ) (ts : List Tok) (b : Block) → IsBare (strict text) ts b →
-        (q : Place) × (module_with (strictly text) max_depth (before ts) ≡ Ok (b, q)) }
+/// What the program's parser reads is the tree of the tokens, and it reads each tree.
+pub fn the_parser_reads_the_grammar()
+    ensures only { (text : List ℕ) (ts : List Tok) (b : Block) →
+        IsRead text ts b → IsBare (strict text) ts b }
+    ensures all { (text : List ℕ) (ts : List Tok) (b : Block) →
+        IsBare (strict text) ts b → IsRead text ts b }
 {}
 
-/// A list of tokens has at most one tree: by the rules of the program, by those that bound the level
-/// alone, and by any others that bound it.
-pub fn tokens_have_one_tree()
-    ensures strict { (text : List ℕ) (ts : List Tok) (b c : Block) →
-        IsBare (strict text) ts b → IsBare (strict text) ts c → b ≡ c }
-    ensures up_to_a_level { (level : ℕ) (ts : List Tok) (b c : Block) →
-        IsBare (up_to level) ts b → IsBare (up_to level) ts c → b ≡ c }
-    ensures bounded { (rules : Rules) (limit : ℕ) →
-        ((t : Tok) (at : ℕ) → rules.may_stand t at ≡ true → at ≤ limit) →
-        (ts : List Tok) (b c : Block) → IsBare rules ts b → IsBare rules ts c → b ≡ c }
+/// A list of tokens has at most one tree: by the rules of the program, by those that bound levels
+/// alone, and by any others that bound them.
+pub fn tokens_have_one_tree_at_most()
+    ensures strict { (text : List ℕ) (ts : List Tok) → HasOneTreeAtMost (strict text) ts }
+    ensures up_to_a_level { (level : ℕ) (ts : List Tok) → HasOneTreeAtMost (up_to level) ts }
+    ensures bounded { (rules : Rules) (limit : ℕ) → StandUpTo rules limit →
+        (ts : List Tok) → HasOneTreeAtMost rules ts }
 {}

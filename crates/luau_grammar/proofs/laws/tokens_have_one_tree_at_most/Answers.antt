@@ -1,5 +1,5 @@
 use Rattle.luau_grammar.proofs.Families.{strict_one_tree, lenient_one_tree, bounded_one_tree}
-use Rattle.luau_grammar.proofs.laws.tokens_have_one_tree.Goals as goal
+use Rattle.luau_grammar.proofs.laws.tokens_have_one_tree_at_most.Goals as goal
 
 pub returns-clause-strict : goal.returns-clause-strict
 returns-clause-strict c = strict_one_tree
