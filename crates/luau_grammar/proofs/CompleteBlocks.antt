@@ -13,10 +13,10 @@ use Rattle.luau_grammar.specs.Expressions as expressions
 use Rattle.luau_grammar.specs.Statements.{begins, closes, is_last, sees_continue, sees_type, sees_export, sees_statement_word, IsVariable, AreArms, IsFunction, IsLocalFunction, IsAlias, IsTypeFunction, IsStatement, IsStatementForm, IsSemicolon, IsBlock, IsBlockBehind}
 use Rattle.luau_grammar.specs.Reading.{Setting, Readers, eat}
 use Rattle.luau_grammar.specs.ReadStatements as code
-use Rattle.luau_grammar.proofs.Agreement.{Bounded, Reached, Complete, CompletePhrases}
-use Rattle.luau_grammar.proofs.Primitives.{bind_by, symbol_sees, sees_by}
+use Rattle.luau_grammar.proofs.Agreement.{Bounded, Complete, CompletePhrases}
+use Rattle.luau_grammar.proofs.Primitives.{Gives, eat_complete, bind_by, symbol_sees, sees_by}
 use Rattle.luau_grammar.proofs.SoundNamed.{attributes_level}
-use Rattle.std.proofs.lemmas.Bool.{and_parts}
+use Rattle.std.proofs.lemmas.Bool.{and_parts, or_parts}
 use Rattle.std.proofs.lemmas.Slice.Eq.{bytes_eq-Decides}
 use Rattle.luau_grammar.proofs.SoundLists.{separated_split}
 use Rattle.luau_grammar.proofs.TakenTokens.{yes_branch, no_branch, takes_reads, name_reads}
@@ -26,9 +26,10 @@ use Rattle.luau_grammar.proofs.CompleteNamed.{function_reads, local_function_rea
 use Rattle.luau_grammar.proofs.StatementParts.{CompleteParts}
 
 none : (x y z : Bool) → (x || (y || z)) ≡ false → (x ≡ false) × (y ≡ false) × (z ≡ false)
-none false false z h = (refl, refl, h)
-none false true z h = absurd (cc)
-none true y z h = absurd (cc)
+none x y z h =
+    let first = or_parts x (y || z) h in
+    let others = or_parts y z first.1 in
+    (first.0, others.0, others.1)
 
 -- a word is no other word
 other_word : (word other : List ℕ) (p : Place) → sees_word word p ≡ true → bytes_eq word other ≡ false → sees_word other p ≡ false
@@ -37,21 +38,17 @@ other_word word other p h n =
     let e = and_parts (sees s.Name p) (bytes_eq (first_bytes p.ahead) word) h in
     ap₂ (λ x y. x && bytes_eq y other) e.0 ((bytes_eq-Decides (first_bytes p.ahead) word).0 e.1) ∙ n
 
-first_part : (x y : Bool) → (x && y) ≡ true → x ≡ true
-first_part true y h = refl
-first_part false y h = absurd (cc)
-
 type_is_no_continue : (p : Place) → sees_type p ≡ true → sees_continue p ≡ false
 type_is_no_continue p h =
-    ap (λ z. z && closes (symbol_behind p)) (other_word (codes "type") (codes "continue") p (first_part (sees_word (codes "type") p) _ h) refl)
+    ap (λ z. z && closes (symbol_behind p)) (other_word (codes "type") (codes "continue") p (and_parts (sees_word (codes "type") p) _ h).0 refl)
 
 export_is_no_continue : (p : Place) → sees_export p ≡ true → sees_continue p ≡ false
 export_is_no_continue p h =
-    ap (λ z. z && closes (symbol_behind p)) (other_word (codes "export") (codes "continue") p (first_part (sees_word (codes "export") p) _ h) refl)
+    ap (λ z. z && closes (symbol_behind p)) (other_word (codes "export") (codes "continue") p (and_parts (sees_word (codes "export") p) _ h).0 refl)
 
 export_is_no_type : (p : Place) → sees_export p ≡ true → sees_type p ≡ false
 export_is_no_type p h =
-    ap (λ z. z && (sees_behind s.Name p || sees_behind s.Function p)) (other_word (codes "export") (codes "type") p (first_part (sees_word (codes "export") p) _ h) refl)
+    ap (λ z. z && (sees_behind s.Name p || sees_behind s.Function p)) (other_word (codes "export") (codes "type") p (and_parts (sees_word (codes "export") p) _ h).0 refl)
 
 module _ (low : ℕ) (set : Setting) (bounded : Bounded set) (inner : Phrases) (given : Readers) (held : CompletePhrases low set inner given) (parts : CompleteParts low set inner given) where
   -- what begins a prefix
@@ -244,17 +241,9 @@ module _ (low : ℕ) (set : Setting) (bounded : Bounded set) (inner : Phrases) (
   statement_reads p q (tree.the_stat span kind) l h =
       subst (λ z. StatementRead p q (tree.the_stat z kind)) (sym h.0) (kind_reads p q kind l h.1)
 
-  semicolon_reads : (p q : Place) → low ≤ p.level → IsSemicolon set.rules inner p q
-      → (b : Bool) × (eat set s.Semicolon p ≡ Ok (b, q)) × Reached low p q
-  unfolding eat
-  semicolon_reads p q l (inl h) =
-      let sign = takes_reads set s.Semicolon p q bounded h in (
-        true,
-        yes_branch _ (symbol_sees s.Semicolon p sign.symbol) (bind_by _ _ sign.reads refl),
-        record { level = (let m = sign.level in omega arith); ahead = (let m = sign.ahead in omega arith) },
-      )
-  semicolon_reads p q l (inr h) =
-      (false, no_branch _ h.0 (ap (λ z. Ok (false, z)) (sym h.1)), subst (λ z. Reached low p z) (sym h.1) (record { level = l; ahead = omega arith }))
+  semicolon_reads : (p q : Place) → low ≤ p.level → IsSemicolon set.rules inner p q → (b : Bool) × Gives low p (eat set s.Semicolon p) q b
+  semicolon_reads p q l (inl h) = (true, eat_complete set low s.Semicolon p q true l h)
+  semicolon_reads p q l (inr h) = (false, eat_complete set low s.Semicolon p q false l h)
 
   another_reads : (x : code.Statements) (p a q : Place) (st : Stat) → low ≤ p.level → IsStatement set.rules inner p a st → IsSemicolon set.rules inner a q
       → (code.another_statement set given x p ≡ Ok (record { found = x.found ++ st ∷ []; ended = is_last st }, q)) × Passed low p q × (begins (symbol p) ≡ true)
@@ -262,8 +251,8 @@ module _ (low : ℕ) (set : Setting) (bounded : Bounded set) (inner : Phrases) (
   another_reads x p a q st l h k =
       let one = statement_reads p a st l h in
       let sign = semicolon_reads a q one.passed.level k in (
-        bind_by _ _ one.reads (bind_by _ _ sign.1 refl),
-        record { level = sign.2.level; ahead = (let m = one.passed.ahead in let n = sign.2.ahead in omega arith) },
+        bind_by _ _ one.reads (bind_by _ _ sign.1.0 refl),
+        record { level = sign.1.1.level; ahead = (let m = one.passed.ahead in let n = sign.1.1.ahead in omega arith) },
         one.begun,
       )
 

@@ -4,7 +4,6 @@ use Rattle.std.specs.Prelude.{None, codes}
 use Rattle.luau_tree.specs.Tree.{Stat, Expr, Exprs, Bind}
 use Rattle.luau_tree.specs.Tree as tree
 use Rattle.luau_tree.specs.View.{binds}
-use Rattle.luau_grammar.specs.declared.symbol.Symbol.{Symbol}
 use Rattle.luau_grammar.specs.declared.symbol.Symbol.TheVariants as s
 use Rattle.luau_grammar.specs.Places.{Place, Rules, symbol, sees, sees_word, start_of, over, at_level, Takes, TakesName}
 use Rattle.luau_grammar.specs.Phrases.{Phrases}
@@ -14,22 +13,15 @@ use Rattle.luau_grammar.specs.Reading.{Setting, Readers}
 use Rattle.luau_grammar.specs.ReadExpressions as values
 use Rattle.luau_grammar.specs.ReadStatements as code
 use Rattle.luau_grammar.proofs.Agreement.{Sound, SoundPhrases}
-use Rattle.luau_grammar.proofs.Primitives.{Reads, reads_ok, reads_if, reads_then, reads_weaker, expect_sound, next_word, name_sound, raise_sound}
+use Rattle.luau_grammar.proofs.Primitives.{takes_taken, name_token, Reads, reads_ok, reads_if, reads_then, reads_weaker, expect_sound, next_word, name_sound, raise_sound}
 use Rattle.luau_grammar.proofs.SoundLists.{Separated, repeat_sound, separated_sound}
 use Rattle.luau_grammar.proofs.StatementParts.{SoundParts}
-
-pub takes_level : (rules : Rules) (x : Symbol) (p q : Place) → Takes rules x p q → q.level ≡ p.level
-unfolding Takes
-takes_level rules x p q h = ap (λ z. z.level) h.2.3
-
-pub name_level : (rules : Rules) (p q : Place) (n : List ℕ) → TakesName rules p q n → q.level ≡ p.level
-unfolding TakesName
-name_level rules p q n h = ap (λ z. z.level) h.3.3
 
 pub attributes_level : (rules : Rules) (inner : Phrases) (n : ℕ) (p q : Place) → expressions.AreAttributes rules inner n p q → q.level ≡ p.level
 attributes_level rules inner zero p q h = ap (λ z. z.level) h.1
 attributes_level rules inner (suc n) p q h =
-    attributes_level rules inner n h.1 q h.5 ∙ name_level rules h.0 h.1 h.2 h.4 ∙ takes_level rules s.AtSign p h.0 h.3
+    attributes_level rules inner n h.1 q h.5 ∙ (takes_taken rules h.0 h.1 s.Name (name_token rules h.0 h.1 h.2 h.4)).level
+    ∙ (takes_taken rules p h.0 s.AtSign h.3).level
 
 module _ (set : Setting) (inner : Phrases) (given : Readers) (held : SoundPhrases set inner given) (parts : SoundParts set inner given) where
   name_expression_sound : (p : Place) → Reads (IsPath set.rules inner p) (values.name_expression set given p)
@@ -93,7 +85,7 @@ module _ (set : Setting) (inner : Phrases) (given : Readers) (held : SoundPhrase
           h.1,
           k,
           subst (λ level. expressions.IsBody set.rules inner m.span (at_level level d) q body)
-              (takes_level set.rules s.Function a b t ∙ attributes_level set.rules inner n p a i) l,
+              ((takes_taken set.rules a b s.Function t).level ∙ attributes_level set.rules inner n p a i) l,
         ),
       )))))
 
