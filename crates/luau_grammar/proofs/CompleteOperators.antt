@@ -134,7 +134,7 @@ module _ (low : ℕ) (set : Setting) (inner : Phrases) (readers : Readers) where
   -- ---- the operators of a tree, along its left side
 
   -- The first operand is read, and the loop comes from it to the whole tree.
-  record Climbs (operation : ℕ → Parser Expr) (least : ℕ) (p q : Place) (e : Expr) : Type 0 where
+  record ClimbedTo (operation : ℕ → Parser Expr) (least : ℕ) (p q : Place) (e : Expr) : Type 0 where
     first : Expr
     place : Place
     reads_first : reads.operand set readers operation p ≡ Ok (first, place)
@@ -145,7 +145,7 @@ module _ (low : ℕ) (set : Setting) (inner : Phrases) (readers : Readers) where
         ≡ repeats set (λ _ z. is_some (tighter least z)) (reads.climb_step set readers operation (start_of p)) turns e q
 
   climbs_operand : (operation : ℕ → Parser Expr) (least : ℕ) (p q : Place) (e : Expr)
-      → Gives low p (reads.operand set readers operation p) q e → Climbs operation least p q e
+      → Gives low p (reads.operand set readers operation p) q e → ClimbedTo operation least p q e
   climbs_operand operation least p q e g = record {
     first = e;
     place = q;
@@ -172,9 +172,9 @@ module _ (low : ℕ) (set : Setting) (inner : Phrases) (readers : Readers) where
   climbs_binary : Bounded set → (operation : ℕ → Parser Expr) (tokens : ℕ) → CompleteAt operation tokens
       → (least : ℕ) (op : BinOp) (p a b q : Place) (id : ℕ) (span : Span) (left right : Expr)
       → length p.ahead ≤ suc tokens → id ≡ 0 → span ≡ over p q → least < tightness op
-      → Climbs operation least p a left → grammar.TakesBinary set.rules inner op a b → IsOperation (raised b) q right → HasOperands op left right
+      → ClimbedTo operation least p a left → grammar.TakesBinary set.rules inner op a b → IsOperation (raised b) q right → HasOperands op left right
       → FitsAt (tree.the_expr id span (tree.Binary op left right)) q
-      → Climbs operation least p q (tree.the_expr id span (tree.Binary op left right))
+      → ClimbedTo operation least p q (tree.the_expr id span (tree.Binary op left right))
   climbs_binary bounded operation tokens complete least op p a b q id span left right enough i at tight c takes is has fits =
       let t : Taken a b = takes_taken set.rules a b takes.0 takes.2 in
       let inside : length a.ahead ≤ length p.ahead = c.reached.ahead in
@@ -208,7 +208,7 @@ module _ (low : ℕ) (set : Setting) (inner : Phrases) (readers : Readers) where
   climbs : Bounded set → Complete low (IsAssertion set.rules inner) (reads.assertion set readers)
       → (operation : ℕ → Parser Expr) (tokens : ℕ) → CompleteAt operation tokens
       → (least : ℕ) (e : Expr) (p q : Place) → low ≤ p.level → length p.ahead ≤ suc tokens → IsOperation p q e → least < loosest_left e
-      → FitsAt e q → Climbs operation least p q e
+      → FitsAt e q → ClimbedTo operation least p q e
   climbs bounded assertion operation tokens complete least (tree.the_expr id span (tree.Binary op left right)) p q level enough is tight fits =
       climbs_binary bounded operation tokens complete least op p is.2.0 is.2.1 q id span left right enough is.0 is.1 (omega arith)
       (climbs bounded assertion operation tokens complete least left p is.2.0 level enough is.2.2 (omega arith)
