@@ -18,7 +18,7 @@ use Rattle.luau_grammar.proofs.Primitives.{Gives, gives_ok, gives_same, gives_he
 use Rattle.luau_grammar.proofs.CompleteLists.{Loops, loop_stop, loop_step, loop_done}
 use Rattle.luau_grammar.proofs.CompleteTypes.{generics_complete, result_complete}
 use Rattle.luau_grammar.proofs.PlainPhrases.{PlainPhrases}
-use Rattle.luau_grammar.proofs.SoundBodies.{Follow, unfollow}
+use Rattle.luau_grammar.proofs.SoundBodies.{AreFollowing, unfollow}
 
 -- whose parameters these are
 self_has : (method : Option Span) (has_self : Bool) (own : List Bind) (all : Binds) → HasSelf method has_self own all
@@ -111,7 +111,7 @@ module _ (low : ℕ) (set : Setting) (inner : Phrases) (readers : Readers) (comp
   unfolding another_parameter
   another_complete given y p a q l c k = gives_expect set _ s.Comma p a l c (λ u m. k m)
 
-  follow_loop : (found more : List Bind) (v : Varargs) (p q : Place) → low ≤ p.level → Follow set inner p q more v
+  follow_loop : (found more : List Bind) (v : Varargs) (p q : Place) → low ≤ p.level → AreFollowing set inner p q more v
       → LoopsParameters (record { found = found; rest = tree.no_varargs }) p q (record { found = found ++ more; rest = v })
   follow_loop found [] tree.no_varargs p q l f =
       let given : Parameters = record { found = found; rest = tree.no_varargs } in

@@ -208,7 +208,7 @@ module _ (low : ℕ) (set : Setting) (inner : Phrases) (readers : Readers) (comp
         omega arith
 
   -- What is read from a first place on: a prefix, and behind it all that a loop over suffixes reads.
-  record Chain (begin q : Place) (e : Expr) : Type 0 where
+  record PrefixRead (begin q : Place) (e : Expr) : Type 0 where
     reached : Reached low begin q
     shorter : length q.ahead < length begin.ahead
     goes : (z : Expr) (r : Place) → Loops low set (λ x p. begins_suffix p) (suffix set readers (start_of begin)) e q r z
@@ -219,15 +219,15 @@ module _ (low : ℕ) (set : Setting) (inner : Phrases) (readers : Readers) (comp
     abbrev Suffixes : Expr → Place → Place → Expr → Type 0
     Suffixes = Loops low set (λ x p. begins_suffix p) (suffix set readers (start_of begin))
 
-    extend : (base e : Expr) (a q : Place) → Chain begin a base → begins_suffix a ≡ true
-        → Gives low a (suffix set readers (start_of begin) base a) q e → length q.ahead < length a.ahead → Chain begin q e
+    extend : (base e : Expr) (a q : Place) → PrefixRead begin a base → begins_suffix a ≡ true
+        → Gives low a (suffix set readers (start_of begin) base a) q e → length q.ahead < length a.ahead → PrefixRead begin q e
     extend base e a q c h g less = record {
       reached = reached_then c.reached g.1;
       shorter = let longer = c.shorter in omega arith;
       goes = λ z r k. c.goes z r (loop_step low set (λ x p. begins_suffix p) (suffix set readers (start_of begin)) base e z a q r h g less k);
     }
 
-    first_of : (e : Expr) (q : Place) → Gives low begin (primary set readers begin) q e → length q.ahead < length begin.ahead → Chain begin q e
+    first_of : (e : Expr) (q : Place) → Gives low begin (primary set readers begin) q e → length q.ahead < length begin.ahead → PrefixRead begin q e
     first_of e q g less = record { reached = g.1; shorter = less; goes = λ z r k. (e, q, g, k) }
 
     index_complete : (base : Expr) (a b q : Place) (name : List ℕ) → low ≤ a.level → Takes set.rules s.Dot a b
@@ -342,12 +342,12 @@ module _ (low : ℕ) (set : Setting) (inner : Phrases) (readers : Readers) (comp
     mutual
       unfolding same
 
-      chain : low ≤ begin.level → (q : Place) (e : Expr) → IsPrefix set.rules inner begin q e → Chain begin q e
+      chain : low ≤ begin.level → (q : Place) (e : Expr) → IsPrefix set.rules inner begin q e → PrefixRead begin q e
       chain l q (tree.the_expr id span kind) h =
-          subst (λ z. Chain begin q z) (sym (the_same id 0 span (over begin q) kind h.0 h.1)) (chain_form l q kind h.2)
+          subst (λ z. PrefixRead begin q z) (sym (the_same id 0 span (over begin q) kind h.0 h.1)) (chain_form l q kind h.2)
 
       chain_form : low ≤ begin.level → (q : Place) (kind : ExprKind) → IsPrefixForm set.rules inner begin q kind
-          → Chain begin q (tree.the_expr 0 (over begin q) kind)
+          → PrefixRead begin q (tree.the_expr 0 (over begin q) kind)
       chain_form l q (tree.NameExpr name) h = first_of _ q (named_complete q name l h) (named_shorter q name h)
       chain_form l q (tree.Paren e) h = first_of _ q (paren_complete h.0 h.1 q e l h.2 h.3 h.4) (paren_shorter h.0 h.1 q e l h.2 h.3 h.4)
       chain_form l q (tree.Index base name) h =
@@ -372,7 +372,7 @@ module _ (low : ℕ) (set : Setting) (inner : Phrases) (readers : Readers) (comp
       chain_form l q (tree.Method base name name_span args) h =
           let (a, b, c, h1, h2, h3, h4, h5) = h in
           let d = chain l a base h1 in
-          subst (λ z. Chain begin q (tree.the_expr 0 (over begin q) (tree.Method base name z args))) (sym h4)
+          subst (λ z. PrefixRead begin q (tree.the_expr 0 (over begin q) (tree.Method base name z args))) (sym h4)
           (extend base _ a q d (suffix_seen a s.Colon (takes_symbol set.rules a b s.Colon h2) refl)
           (method_complete base a b c q name args d.reached.level h2 h3 h5)
           (method_shorter a b c q name args d.reached.level h2 h3 h5))

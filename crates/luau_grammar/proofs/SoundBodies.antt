@@ -28,21 +28,21 @@ IsAttribute set p q y = (a : Place) × (name : List ℕ) × Takes set.rules s.At
 
 module _ (set : Setting) (inner : Phrases) where
   -- parameters that follow one, up to the last, and the `...` behind them
-  abbrev pub Follow : Place → Place → List Bind → Varargs → Type 0
-  Follow p q [] tree.no_varargs = (sees s.Comma p ≡ false) × (q ≡ p)
-  Follow p q [] (tree.varargs t) =
+  abbrev pub AreFollowing : Place → Place → List Bind → Varargs → Type 0
+  AreFollowing p q [] tree.no_varargs = (sees s.Comma p ≡ false) × (q ≡ p)
+  AreFollowing p q [] (tree.varargs t) =
       (b : Place) × Takes set.rules s.Comma p b × (sees s.Dots b ≡ true) × IsVarparam set.rules inner b q t
-  Follow p q (x ∷ xs) v =
-      (b c : Place) × Takes set.rules s.Comma p b × (sees s.Dots b ≡ false) × IsBind set.rules inner b c x × Follow c q xs v
+  AreFollowing p q (x ∷ xs) v =
+      (b c : Place) × Takes set.rules s.Comma p b × (sees s.Dots b ≡ false) × IsBind set.rules inner b c x × AreFollowing c q xs v
 
   follow : (p a q : Place) (x : Bind) (xs : List Bind) (v : Varargs)
-      → IsBind set.rules inner p a x → Follow a q xs v → AreParametersFrom set.rules inner p q x xs v
+      → IsBind set.rules inner p a x → AreFollowing a q xs v → AreParametersFrom set.rules inner p q x xs v
   follow p a q x [] tree.no_varargs i f = subst (λ z. AreParametersFrom set.rules inner p z x [] tree.no_varargs) (sym f.1) (i, f.0)
   follow p a q x [] (tree.varargs t) i f = (a, f.0, i, f.1, f.2, f.3)
   follow p a q x (y ∷ ys) v i f = (a, f.0, i, f.2, f.3, follow f.0 f.1 q y ys v f.4 f.5)
 
   pub unfollow : (p q : Place) (x : Bind) (xs : List Bind) (v : Varargs) → AreParametersFrom set.rules inner p q x xs v
-      → (a : Place) × IsBind set.rules inner p a x × Follow a q xs v
+      → (a : Place) × IsBind set.rules inner p a x × AreFollowing a q xs v
   unfollow p q x [] tree.no_varargs h = (q, h.0, (h.1, refl))
   unfollow p q x [] (tree.varargs t) h = (h.0, h.2, (h.1, h.3, h.4, h.5))
   unfollow p q x (y ∷ ys) v h =
@@ -63,7 +63,7 @@ module _ (set : Setting) (inner : Phrases) where
   -- what the loop reads behind some parameters
   abbrev Continued : Varargs → List Bind → Place → Parameters → Place → Type 0
   Continued tree.no_varargs found p all r =
-      (more : List Bind) × (all.found ≡ found ++ more) × Follow p r more all.rest
+      (more : List Bind) × (all.found ≡ found ++ more) × AreFollowing p r more all.rest
   Continued (tree.varargs t) found p all r = (all ≡ record { found = found; rest = tree.varargs t }) × (r ≡ p)
 
   abbrev Follows : Parameters → Place → Place → Parameters → Type 0
@@ -80,7 +80,7 @@ module _ (set : Setting) (inner : Phrases) where
   last_parameter found p b q r t all c d v k = (
     [],
     ap (λ (z : Parameters). z.found) k.0 ∙ sym (append-nil found),
-    subst (λ z. Follow p r [] z) (sym (ap (λ (z : Parameters). z.rest) k.0))
+    subst (λ z. AreFollowing p r [] z) (sym (ap (λ (z : Parameters). z.rest) k.0))
         (b, c, d, subst (λ z. IsVarparam set.rules inner b z t) (sym k.1) v),
   )
 
