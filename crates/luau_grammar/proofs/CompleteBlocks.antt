@@ -267,14 +267,14 @@ module _ (low : ℕ) (set : Setting) (bounded : Bounded set) (inner : Phrases) (
   stats_of (tree.more_stats x xs) = ap (tree.more_stats x) (stats_of xs)
 
   -- the loop over statements
-  abbrev Statements : code.Statements → Place → Place → code.Statements → Type 0
-  Statements x p q z = Loops low set (code.goes_statements set given) (code.another_statement set given) x p q z
+  abbrev StatementLoop : code.Statements → Place → Place → code.Statements → Type 0
+  StatementLoop x p q z = Loops low set (code.goes_statements set given) (code.another_statement set given) x p q z
 
   -- What the loop reads up to a place.
   record StatementsRead (x : code.Statements) (p q : Place) (b : Block) : Type 0 where
     pub result : code.Statements
     pub found : result.found ≡ x.found ++ list_of b
-    pub reads : Statements x p q result
+    pub reads : StatementLoop x p q result
 
   ended_here : (x : code.Statements) (p q : Place) → low ≤ p.level → code.goes_statements set given x p ≡ false → q ≡ p
       → StatementsRead x p q tree.no_stats
@@ -282,7 +282,7 @@ module _ (low : ℕ) (set : Setting) (bounded : Bounded set) (inner : Phrases) (
   ended_here x p q l e h = record {
     result = x;
     found = sym (append-nil x.found);
-    reads = subst (λ z. Statements x p z x) (sym h) (loop_stop low set _ _ x p e l);
+    reads = subst (λ z. StatementLoop x p z x) (sym h) (loop_stop low set _ _ x p e l);
   }
 
   statements_read : (b : Block) (ended : Bool) (found : List Stat) (p q : Place) → low ≤ p.level

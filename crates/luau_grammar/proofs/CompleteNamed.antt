@@ -23,8 +23,8 @@ use Rattle.luau_grammar.proofs.StatementParts.{CompleteParts}
 
 module _ (low : ℕ) (set : Setting) (bounded : Bounded set) (inner : Phrases) (given : Readers) (held : CompletePhrases low set inner given) (parts : CompleteParts low set inner given) where
   -- the loop over the names behind the first name of a path
-  abbrev Names : Place → Expr → Place → Place → Expr → Type 0
-  Names p e q r z = Loops low set (λ _ w. sees s.Dot w) (values.index set given (start_of p)) e q r z
+  abbrev NameLoop : Place → Expr → Place → Place → Expr → Type 0
+  NameLoop p e q r z = Loops low set (λ _ w. sees s.Dot w) (values.index set given (start_of p)) e q r z
 
   -- What is read of a path up to a place: the loop goes on from there.
   record PathRead (p q : Place) (e : Expr) : Type 0 where
@@ -33,7 +33,7 @@ module _ (low : ℕ) (set : Setting) (bounded : Bounded set) (inner : Phrases) (
     pub named : values.name_expression set given p ≡ Ok (first, begin)
     pub begun : suc (length begin.ahead) ≤ length p.ahead
     pub level : low ≤ q.level
-    pub reads : (r : Place) (z : Expr) → Names p e q r z → Names p first begin r z
+    pub reads : (r : Place) (z : Expr) → NameLoop p e q r z → NameLoop p first begin r z
 
   index_reads : (p a b q : Place) (id : ℕ) (span : Span) (base : Expr) (n : List ℕ) → low ≤ a.level → Takes set.rules s.Dot a b
       → TakesName set.rules (raised b) q n → id ≡ 0 → span ≡ over p q
