@@ -28,3 +28,4 @@ pub mod CompleteBlocks
 pub mod Depth
 pub mod OneTree
 pub mod Families
+pub mod Computed

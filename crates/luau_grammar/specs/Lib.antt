@@ -14,3 +14,4 @@ pub mod ReadExpressions
 pub mod ReadStatements
 pub mod ReadModules
 pub mod Laws
+pub mod Samples
