@@ -1,6 +1,5 @@
 -- What it is for a parser to read what a relation of the grammar says, in both directions.
 use Rattle.std.specs.Prelude.{◌≡◌, ℕ, ◌≤◌, length, true, Option, Some, None, Ok}
-use Rattle.luau_tree.specs.Tree.{Block, TypeSyntax}
 use Rattle.luau_lex.specs.Tokens.{Tok}
 use Rattle.luau_grammar.specs.Places.{Place}
 use Rattle.luau_grammar.specs.Phrases.{Phrases, Listed}

@@ -77,7 +77,7 @@ module _ (rules : Rules) (inner : Phrases) where
       (a b : Place) × (name : List ℕ) × Takes s.AtSign p a × TakesName a b name × AreAttributes more b q
 
   -- `NAME [':' type]`
-  abbrev IsAnnotation : Place → Place → MaybeType → Type 0
+  abbrev pub IsAnnotation : Place → Place → MaybeType → Type 0
   IsAnnotation p q tree.no_type = (sees s.Colon p ≡ false) × (q ≡ p)
   IsAnnotation p q (tree.a_type t) = (a : Place) × Takes s.Colon p a × inner.typ None a q t
 
@@ -86,7 +86,7 @@ module _ (rules : Rules) (inner : Phrases) where
       (a : Place) × TakesName p a name × (span ≡ over p a) × IsAnnotation a q typ
 
   -- `type | NAME '...'`, behind the `:` of a variadic parameter
-  abbrev IsVarType : Place → Place → TypeSyntax → Type 0
+  abbrev pub IsVarType : Place → Place → TypeSyntax → Type 0
   IsVarType p q t =
       ((sees_pack p ≡ true) × (a : Place) × (name : List ℕ) × TakesName p a name × Takes s.Dots a q
       × (t ≡ tree.the_type (over p q) (tree.GenericPack name)))

@@ -14,3 +14,5 @@ pub mod ReadExpressions
 pub mod ReadStatements
 pub mod ReadModules
 pub mod Texts
+pub mod Laws
+pub mod Samples

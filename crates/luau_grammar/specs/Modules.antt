@@ -1,10 +1,10 @@
 -- Modules: which lists of tokens have a tree, and which.
-use Rattle.std.specs.Prelude.{◌≡◌, ℕ, zero, suc, Bool, true, not, List, [], ◌∷◌, nat_le, Option, drop, take, ◌-◌, ◌==◌}
+use Rattle.std.specs.Prelude.{◌≡◌, ℕ, zero, suc, Bool, true, not, List, [], nat_le, drop, take, ◌-◌, ◌==◌}
 use Rattle.std.specs.List.{list_any}
-use Rattle.luau_tree.specs.Tree.{Block, Expr, TypeSyntax}
+use Rattle.luau_tree.specs.Tree.{Block}
 use Rattle.luau_lex.specs.Tokens.{Tok}
 use Rattle.luau_grammar.specs.Places.{Place, Rules, at_level, raised}
-use Rattle.luau_grammar.specs.Phrases.{Phrases, Listed}
+use Rattle.luau_grammar.specs.Phrases.{Phrases}
 use Rattle.luau_grammar.specs.Types.{IsType}
 use Rattle.luau_grammar.specs.Expressions.{IsExpression}
 use Rattle.luau_grammar.specs.Statements.{IsBlock}

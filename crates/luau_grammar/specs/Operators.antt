@@ -1,5 +1,5 @@
 -- Operators: their symbols, how tightly they bind, and which trees respect that.
-use Rattle.std.specs.Prelude.{◌≡◌, ℕ, ◌<◌, ◌≤◌, min, Bool, true, false, Option, Some, None}
+use Rattle.std.specs.Prelude.{ℕ, ◌<◌, ◌≤◌, min, Bool, true, false, Option, Some, None}
 use Rattle.luau_tree.specs.declared.names.UnOp.{UnOp}
 use Rattle.luau_tree.specs.declared.names.UnOp.TheVariants as un
 use Rattle.luau_tree.specs.declared.names.BinOp.{BinOp}

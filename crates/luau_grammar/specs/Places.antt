@@ -1,5 +1,5 @@
 -- Places in a list of tokens, and what stands at them.
-use Rattle.std.specs.Prelude.{◌≡◌, ℕ, ◌+◌, Bool, true, false, ◌&&◌, List, [], ◌∷◌}
+use Rattle.std.specs.Prelude.{◌≡◌, ℕ, ◌+◌, Bool, true, ◌&&◌, List, [], ◌∷◌}
 use Rattle.std.specs.Str.{bytes_eq}
 use Rattle.luau_tree.specs.declared.position.Span.{Span}
 use Rattle.luau_lex.specs.Tokens.{Tok}

@@ -1,9 +1,8 @@
 -- The parser of a module that the code computes.
-use Rattle.std.specs.Prelude.{ℕ, zero, suc, List, [], ◌∷◌, ◌+◌, Option, Some, None, Ok, Err, if◌then◌else◌}
-use Rattle.luau_tree.specs.Tree.{Block, Expr, TypeSyntax, no_stats}
+use Rattle.std.specs.Prelude.{ℕ, zero, suc, Ok, Err, if◌then◌else◌}
+use Rattle.luau_tree.specs.Tree.{Block, no_stats}
 use Rattle.luau_grammar.specs.declared.symbol.Symbol.TheVariants as s
-use Rattle.luau_grammar.specs.Places.{Place, sees, symbol}
-use Rattle.luau_grammar.specs.Phrases.{Listed}
+use Rattle.luau_grammar.specs.Places.{sees}
 use Rattle.luau_grammar.specs.Reading as read
 use Rattle.luau_grammar.specs.Reading.{Setting, Parser, Readers, ◌>>=◌, ◌>>◌, pure}
 use Rattle.luau_grammar.specs.ReadPhrases as phrases

@@ -1,5 +1,5 @@
 -- The parsers of types that the code computes.
-use Rattle.std.specs.Prelude.{◌≡◌, ℕ, Bool, true, false, not, ◌||◌, ◌&&◌, List, [], ◌∷◌, ◌++◌, Option, Some, None, Ok, Err, codes, if◌then◌else◌}
+use Rattle.std.specs.Prelude.{ℕ, Bool, true, false, not, ◌||◌, ◌&&◌, List, [], ◌∷◌, ◌++◌, Option, Some, None, Ok, codes, if◌then◌else◌}
 use Rattle.luau_tree.specs.declared.names.Access.{Access}
 use Rattle.luau_tree.specs.declared.names.Access.TheVariants.{Both, Read, Write}
 use Rattle.luau_tree.specs.Tree.{TypeSyntax, TypeSyntaxes, TypeKind, MaybeType, Gen, Gens, Prop, Props, PropKey}
@@ -7,7 +7,7 @@ use Rattle.luau_tree.specs.Tree as tree
 use Rattle.luau_tree.specs.View.{types, gens, props}
 use Rattle.luau_grammar.specs.declared.symbol.Symbol.{Symbol}
 use Rattle.luau_grammar.specs.declared.symbol.Symbol.TheVariants as s
-use Rattle.luau_grammar.specs.Places.{Place, symbol, sees, start_of}
+use Rattle.luau_grammar.specs.Places.{Place, symbol, sees}
 use Rattle.luau_grammar.specs.Phrases.{Listed, in_parens}
 use Rattle.luau_grammar.specs.Lists.{sees_separator}
 use Rattle.luau_grammar.specs.Types.{sees_access, begins_property, sees_typeof, begins_tail, is_type_front, pack_of, begins_named, begin_of}

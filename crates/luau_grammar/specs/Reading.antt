@@ -1,15 +1,15 @@
--- What the code reads at a place, step by step: the parsers that its functions compute. No clause of `parse` and no law
--- cites these, so no reader needs to believe them.
-use Rattle.std.specs.Prelude.{◌≡◌, ◌≢◌, ℕ, zero, suc, ◌+◌, Bool, true, false, List, [], ◌∷◌, ◌++◌, length, nat_le, Option, Some, None, Result, Ok, Err, if◌then◌else◌}
+-- What the code reads at a place, step by step: the parsers that its functions compute. A law says that they read what
+-- the grammar says, and all of it, so no reader needs to believe them.
+use Rattle.std.specs.Prelude.{ℕ, zero, suc, ◌+◌, Bool, true, false, List, [], ◌∷◌, ◌++◌, length, nat_le, Option, Result, Ok, Err, if◌then◌else◌}
 use Rattle.luau_tree.specs.declared.position.Span.{Span}
 use Rattle.luau_tree.specs.Tree.{Block, Expr, TypeSyntax}
-use Rattle.luau_lex.specs.Tokens.{Tok, seen_token}
+use Rattle.luau_lex.specs.Tokens.{Tok}
 use Rattle.luau_lex.specs.Values.{string_value}
 use Rattle.luau_grammar.specs.declared.error.ParseError.{ParseError}
-use Rattle.luau_grammar.specs.declared.error.ParseError.TheVariants.{Unexpected, UnexpectedEnd, AmbiguousCall, Nesting, NoMemory}
+use Rattle.luau_grammar.specs.declared.error.ParseError.TheVariants.{Unexpected, UnexpectedEnd, AmbiguousCall, Nesting}
 use Rattle.luau_grammar.specs.declared.symbol.Symbol.{Symbol}
 use Rattle.luau_grammar.specs.declared.symbol.Symbol.TheVariants as s
-use Rattle.luau_grammar.specs.Places.{Place, Rules, symbol, sees, start_of, from_to, over, at_level, raised, behind}
+use Rattle.luau_grammar.specs.Places.{Place, Rules, sees, start_of, from_to, at_level, raised, behind}
 use Rattle.luau_grammar.specs.Phrases.{Listed}
 use Rattle.luau_grammar.specs.Modules.{strict, max_level}
 

@@ -1,8 +1,7 @@
 -- Statements and blocks: which tokens each form is.
-use Rattle.std.specs.Prelude.{◌≡◌, ℕ, ◌+◌, Bool, true, false, ◌||◌, ◌&&◌, ◌⊎◌, List, [], ◌∷◌, Option, Some, None, codes}
+use Rattle.std.specs.Prelude.{◌≡◌, ℕ, Bool, true, false, ◌||◌, ◌&&◌, ◌⊎◌, List, [], ◌∷◌, Option, Some, None, codes}
 use Rattle.std.specs.Str.{bytes_eq}
 use Rattle.luau_tree.specs.declared.position.Span.{Span}
-use Rattle.luau_tree.specs.declared.names.BinOp.{BinOp}
 use Rattle.luau_tree.specs.Tree.{Block, Stat, StatKind, Arms, MaybeBlock, Expr, Exprs, MaybeExpr, ExprKind, Bind, Binds, Gens, TypeSyntax}
 use Rattle.luau_tree.specs.Tree as tree
 use Rattle.luau_lex.specs.Tokens.{Tok}
@@ -140,7 +139,7 @@ module _ (rules : Rules) (inner : Phrases) where
   IsDo p q block = (a b : Place) × Takes s.Do p a × inner.block a b block × Takes s.End b q
 
   -- `[',' exp]`
-  abbrev IsStep : Place → Place → MaybeExpr → Type 0
+  abbrev pub IsStep : Place → Place → MaybeExpr → Type 0
   IsStep p q tree.no_expr = (sees s.Comma p ≡ false) × (q ≡ p)
   IsStep p q (tree.an_expr e) = (a : Place) × Takes s.Comma p a × inner.exp a q e
 
@@ -156,7 +155,7 @@ module _ (rules : Rules) (inner : Phrases) where
       × expressions.AreExpressions rules inner c d values × IsDo d q body
 
   -- `'for' bind '=' exp ',' exp [',' exp] 'do' block 'end'`
-  abbrev IsNumericFor : Place → Place → Bind → Expr → Expr → MaybeExpr → Block → Type 0
+  abbrev pub IsNumericFor : Place → Place → Bind → Expr → Expr → MaybeExpr → Block → Type 0
   IsNumericFor p q x from to step body =
       (a b c d e f g : Place) × Takes s.For p a × expressions.IsBind rules inner a b x × Takes s.Assign b c
       × inner.exp c d from × Takes s.Comma d e × inner.exp e f to × IsStep f g step × IsDo g q body
@@ -180,14 +179,14 @@ module _ (rules : Rules) (inner : Phrases) where
   IsMethodName p q _ _ = ⊥
 
   -- `attrs 'function' NAME {'.' NAME} [':' NAME] body`
-  abbrev IsFunction : Place → Place → Expr → Option (List ℕ) → tree.Body → Type 0
+  abbrev pub IsFunction : Place → Place → Expr → Option (List ℕ) → tree.Body → Type 0
   IsFunction p q path method body =
       (attributes : ℕ) × (a b c d : Place) × (named : Option Span) × expressions.AreAttributes rules inner attributes p a
       × Takes s.Function a b × IsPath b c path × (sees s.Dot c ≡ false) × IsMethodName c d method named
       × expressions.IsBody rules inner named (at_level p.level d) q body
 
   -- `attrs 'local' 'function' NAME body`
-  abbrev IsLocalFunction : Place → Place → Bind → tree.Body → Type 0
+  abbrev pub IsLocalFunction : Place → Place → Bind → tree.Body → Type 0
   IsLocalFunction p q (tree.the_bind name span tree.no_type) body =
       (attributes : ℕ) × (a b c d : Place) × expressions.AreAttributes rules inner attributes p a × Takes s.Local a b
       × Takes s.Function b c × TakesName c d name × (span ≡ over c d) × expressions.IsBody rules inner None d q body
@@ -211,13 +210,13 @@ module _ (rules : Rules) (inner : Phrases) where
   IsTypeWord p q false = (sees_type p ≡ true) × TakesName p q (codes "type")
 
   -- `['export'] 'type' NAME [generics] '=' type`
-  abbrev IsAlias : Place → Place → Bool → List ℕ → Gens → TypeSyntax → Type 0
+  abbrev pub IsAlias : Place → Place → Bool → List ℕ → Gens → TypeSyntax → Type 0
   IsAlias p q exported name generics typ =
       (a b c d : Place) × IsTypeWord p a exported × TakesName a b name
       × types.AreGenerics rules inner true b c generics × Takes s.Assign c d × inner.typ None d q typ
 
   -- `['export'] 'type' 'function' NAME body`
-  abbrev IsTypeFunction : Place → Place → Bool → List ℕ → tree.Body → Type 0
+  abbrev pub IsTypeFunction : Place → Place → Bool → List ℕ → tree.Body → Type 0
   IsTypeFunction p q exported name body =
       (a b c : Place) × IsTypeWord p a exported × Takes s.Function a b × TakesName b c name
       × expressions.IsBody rules inner None c q body
@@ -235,8 +234,9 @@ module _ (rules : Rules) (inner : Phrases) where
   IsStatementForm p q (tree.Compound target op value) =
       (sees_statement_word p ≡ false) × (a b : Place) × (x : Symbol) × IsVariable p a target
       × (compound_of x ≡ Some op) × Takes x a b × inner.exp b q value
+  -- behind a call stands no operator of a compound assignment
   IsStatementForm p q (tree.CallStat call) =
-      (sees_statement_word p ≡ false) × IsOwnPrefix p q call × (is_call call ≡ true)
+      (sees_statement_word p ≡ false) × IsOwnPrefix p q call × (is_call call ≡ true) × (compound_of (symbol q) ≡ None)
   IsStatementForm p q (tree.Do body) = IsDo p q body
   IsStatementForm p q (tree.While cond body) =
       (a b : Place) × Takes s.While p a × inner.exp a b cond × IsDo b q body

@@ -1,11 +1,9 @@
 -- Types: which tokens each form of a type is.
-use Rattle.std.specs.Prelude.{◌≡◌, ◌≢◌, ℕ, zero, suc, ◌+◌, Bool, true, false, not, ◌||◌, ◌&&◌, ◌⊎◌, List, [], ◌∷◌, Option, Some, None, is_some, codes}
-use Rattle.luau_tree.specs.declared.position.Span.{Span}
+use Rattle.std.specs.Prelude.{◌≡◌, ℕ, zero, suc, Bool, true, false, ◌||◌, ◌&&◌, ◌⊎◌, List, [], ◌∷◌, Option, Some, None, is_some, codes}
 use Rattle.luau_tree.specs.declared.names.Access.{Access}
 use Rattle.luau_tree.specs.declared.names.Access.TheVariants.{Both, Read, Write}
 use Rattle.luau_tree.specs.Tree.{TypeSyntax, TypeSyntaxes, TypeKind, MaybeType, Gen, Gens, Prop, Props, PropKey}
 use Rattle.luau_tree.specs.Tree as tree
-use Rattle.luau_lex.specs.Tokens.{Tok}
 use Rattle.luau_grammar.specs.declared.symbol.Symbol.{Symbol}
 use Rattle.luau_grammar.specs.declared.symbol.Symbol.TheVariants as s
 use Rattle.luau_grammar.specs.Places as place
@@ -90,7 +88,7 @@ module _ (rules : Rules) (inner : Phrases) where
       × AreMembers b q u us later tailed × (named ≡ (here || later))
 
   -- `[targlist]`, up to a `)`
-  abbrev AreListed : Place → Place → List TypeSyntax → Bool → Bool → Type 0
+  abbrev pub AreListed : Place → Place → List TypeSyntax → Bool → Bool → Type 0
   AreListed p q [] named tailed = (sees s.RightParen p ≡ true) × (q ≡ p) × (named ≡ false) × (tailed ≡ false)
   AreListed p q (t ∷ ts) named tailed = (sees s.RightParen p ≡ false) × AreMembers p q t ts named tailed
 
