@@ -1,0 +1,5 @@
+pub mod NumberLemmas
+pub mod TotalLemmas
+pub mod MachineLemmas
+pub mod RuleLemmas
+pub mod Moves

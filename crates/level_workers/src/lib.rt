@@ -1,0 +1,10 @@
+//! Numbered tasks that are done by workers. Seats at a board draw numbers below a limit, each number once, and the workers
+//! of a level draw the tasks that they do.
+#![tactic(auto)]
+
+mod board;
+mod opening;
+mod view;
+
+pub use board::{TicketSeat, Tickets};
+pub use opening::tickets;
