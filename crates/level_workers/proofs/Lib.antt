@@ -3,3 +3,4 @@ pub mod TotalLemmas
 pub mod MachineLemmas
 pub mod RuleLemmas
 pub mod Moves
+pub mod WorkLemmas

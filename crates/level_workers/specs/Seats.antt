@@ -52,3 +52,9 @@ DrewAllIfWhole h = h.parts ≡ h.board.seats → h.met ≡ true → EachBelow h.
 -- a seat, by its table and by what it knows
 abbrev pub held : TableId → View → Held
 held id v = record { board = record { id = id; limit = v.limit; seats = v.seats }; parts = v.parts; finds = v.finds; met = v.met }
+
+-- a seat of the board that drew nothing and has not met the limit
+pub record IsFresh (board : Board) (h : Held) : Type 0 where
+  pub board_is : h.board ≡ board
+  pub no_finds : h.finds ≡ []
+  pub not_met : h.met ≡ false

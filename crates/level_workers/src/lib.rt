@@ -4,7 +4,10 @@
 
 mod board;
 mod opening;
+mod task;
 mod view;
+mod worker;
 
 pub use board::{TicketSeat, Tickets};
 pub use opening::tickets;
+pub use task::{Gate, NoGate, Task};
