@@ -4,3 +4,5 @@ pub mod MachineLemmas
 pub mod RuleLemmas
 pub mod Moves
 pub mod WorkLemmas
+pub mod RunLemmas
+pub mod PlainLemmas

@@ -1,5 +1,5 @@
 -- Boards and seats, as callers see them.
-use Rattle.std.specs.Prelude.{◌≡◌, ℕ, ◌+◌, ◌-◌, ◌<◌, Bool, true, false, ◌||◌, List, [], ◌∷◌, ◌++◌, nat_lt, nat_le, if◌then◌else◌, All, Option, Some, None}
+use Rattle.std.specs.Prelude.{◌≡◌, ℕ, ◌+◌, ◌-◌, ◌<◌, Bool, true, false, ◌||◌, List, [], ◌∷◌, ◌++◌, nat_lt, nat_le, if◌then◌else◌, All, sum_by, Option, Some, None}
 use Rattle.atomic_table.specs.Seated.{TableId}
 use Rattle.level_workers.specs.declared.view.View.{View}
 use Rattle.level_workers.specs.Numbers.{EachBelow, below}
@@ -58,3 +58,7 @@ pub record IsFresh (board : Board) (h : Held) : Type 0 where
   pub board_is : h.board ≡ board
   pub no_finds : h.finds ≡ []
   pub not_met : h.met ≡ false
+
+-- the parts of all these seats
+abbrev pub parts_of : List Held → ℕ
+parts_of seats = sum_by (λ (h : Held). h.parts) seats

@@ -4,10 +4,13 @@
 
 mod board;
 mod opening;
+mod order;
+mod run;
 mod task;
 mod view;
 mod worker;
 
 pub use board::{TicketSeat, Tickets};
 pub use opening::tickets;
+pub use run::run_all;
 pub use task::{Gate, NoGate, Task};
