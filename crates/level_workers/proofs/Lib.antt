@@ -6,3 +6,4 @@ pub mod Moves
 pub mod WorkLemmas
 pub mod RunLemmas
 pub mod PlainLemmas
+pub mod MachineLaws

@@ -1,11 +1,11 @@
 -- The ticket machine, draw by draw.
-use Rattle.std.proofs.Common.{◌≡◌, ◌≢◌, ℕ, zero, suc, ◌+◌, ◌<◌, ◌≤◌, Bool, true, false, cond, ◌⊎◌, inl, inr, ⊎_elim, List, [], ◌∷◌, ◌++◌, map, length, refl, sym, ap, ◌∙◌, subst, eqb, ne_eqb, arith}
-use Rattle.std.specs.Prelude.{◌==◌, if◌then◌else◌, fold, flat_map}
+use Rattle.std.proofs.Common.{◌≡◌, ◌≢◌, ℕ, ◌+◌, Bool, true, false, cond, List, [], ◌∷◌, ◌++◌, map, refl, sym, ap, arith}
+use Rattle.std.specs.Prelude.{◌==◌, if◌then◌else◌, fold}
 use Rattle.std.proofs.lemmas.Bool.Decides.{nat_tests}
 use Rattle.std.proofs.lemmas.List.Sums.{fold_push}
-use Rattle.level_workers.specs.Numbers.{times, EachBelow, numbers_below}
-use Rattle.level_workers.specs.Machine.{Machine, opening, draw, after, all_found}
-use Rattle.level_workers.proofs.NumberLemmas.{tell, times-append, times-push, EachBelow-next}
+use Rattle.level_workers.specs.Numbers.{times}
+use Rattle.level_workers.specs.Machine.{Machine, opening, draw, after}
+use Rattle.level_workers.proofs.NumberLemmas.{tell, times-push}
 
 pub after-push : (draws : List ℕ) (seat : ℕ) → after (draws ++ seat ∷ []) ≡ draw (after draws) seat
 after-push draws seat = fold_push draw opening draws seat
@@ -51,9 +51,11 @@ IsJoined-draw into other m m' apart j seat = record {
         let i = j.into_found x in
         let n = j.next in
         grind (arith, nat_tests)
+
     quiet : (b : Bool) → (seat == other) ≡ b → cond (other == cond b into seat) (m'.found other ++ m'.next ∷ []) (m'.found other) ≡ []
     quiet true e = rw (ne_test other into (λ s. apart (sym s))) j.other_found
     quiet false e = let ne : other ≢ seat = grind (arith, nat_tests) in rw (ne_test other seat ne) j.other_found
+
     rest : (far : ℕ) → far ≢ into → far ≢ other → (b : Bool) → (seat == other) ≡ b
         → cond (far == cond b into seat) (m'.found far ++ m'.next ∷ []) (m'.found far) ≡ cond (far == seat) (m.found far ++ m.next ∷ []) (m.found far)
     rest far f g true e =

@@ -1,22 +1,22 @@
 -- Each step keeps the rule of a board.
-use Rattle.std.proofs.Common.{◌≡◌, ◌≢◌, ℕ, zero, suc, ◌+◌, ◌-◌, ◌%◌, ◌^◌, ◌<◌, ◌≤◌, Bool, true, false, cond, ◌⊎◌, inl, inr, ⊎_elim, List, [], ◌∷◌, ◌++◌, map, length, get_or, set, refl, sym, ap, ◌∙◌, subst, arith}
-use Rattle.std.specs.Prelude.{◌==◌, ◌||◌, if◌then◌else◌, nat_lt, nat_le, sum_by, All, slice_index, slice_set, length}
+use Rattle.std.proofs.Common.{◌≡◌, ◌≢◌, ℕ, ◌+◌, ◌-◌, ◌%◌, ◌^◌, ◌<◌, ◌≤◌, Bool, true, false, cond, ◌⊎◌, inl, inr, ⊎_elim, List, [], ◌∷◌, ◌++◌, map, length, get_or, set, refl, sym, ap, ◌∙◌, subst, arith}
+use Rattle.std.specs.Prelude.{◌==◌, ◌||◌, nat_le, sum_by, All, slice_index, slice_set, length}
 use mathlib.Core.Option.{some}
 use lib.ListN.{get_elem?}
 use Rattle.std.proofs.Math.Nat.{mod-eq_of_lt}
 use Rattle.std.proofs.lemmas.Bool.Decides.{nat_tests}
 use Rattle.std.proofs.lemmas.List.{length_push}
 use Rattle.std.proofs.lemmas.List.Sums.{sum_by_push}
-use Rattle.atomic_table.specs.Table.{State, Me, Allows, Splits, Joins, keeps}
+use Rattle.atomic_table.specs.Table.{Me, Allows, Splits, Joins, keeps}
 use Rattle.atomic_table.proofs.Lists.{at_set, set_again, set_here, set_else}
 use Rattle.level_workers.specs.declared.view.View.{View}
-use Rattle.level_workers.specs.Numbers.{times, SameNumbers, EachBelow, NoneTwice, below, past}
+use Rattle.level_workers.specs.Numbers.{times, SameNumbers, past}
 use Rattle.level_workers.specs.Machine.{Machine, draw, after}
 use Rattle.level_workers.specs.Views.{finding, less_a_part, of_one_part, joined, spent, all_finds, open_parts}
-use Rattle.level_workers.specs.Rule.{IsState, Sits, Stands, Keeps, Tells, Drew, Looked}
-use Rattle.level_workers.proofs.NumberLemmas.{tell, times-append, times-push, EachBelow-next, EachBelow-same, length-past, length-past-append, times-at}
+use Rattle.level_workers.specs.Rule.{IsState, Sits, Stands, Keeps, Drew, Looked}
+use Rattle.level_workers.proofs.NumberLemmas.{tell, times-append, times-push, EachBelow-next, EachBelow-same, length-past-append, times-at}
 use Rattle.level_workers.proofs.TotalLemmas.{at_length, length_of_set, at_push, sum_by-at_set, le-sum_by, times-all_finds, past-all_finds}
-use Rattle.level_workers.proofs.MachineLemmas.{after-push, times-draw, counted_for, IsJoined, IsJoined-after}
+use Rattle.level_workers.proofs.MachineLemmas.{after-push, times-draw, counted_for, IsJoined-after}
 use Rattle.level_workers.proofs.RuleLemmas.{word_bound, sits, tells}
 
 -- how often x stands in all finds after one view was changed
@@ -70,6 +70,7 @@ module _ (limit seats word : ℕ) (views : List View) (stands : Stands limit sea
     where
       others_found : (j : ℕ) (u : View) → j ≢ seat → get_elem? views j ≡ some u → (x : ℕ) → times x u.finds ≡ times x ((draw (after stands.draws) seat).found j)
       others_found j u apart e x = let t = times-draw x (after stands.draws) seat j in let f = stands.state.found j u e x in grind (arith, nat_tests)
+
       own_found : (x : ℕ) → times x (v.finds ++ word ∷ []) ≡ times x ((draw (after stands.draws) seat).found seat)
       own_found x =
           let t = times-draw x (after stands.draws) seat seat in
@@ -77,6 +78,7 @@ module _ (limit seats word : ℕ) (views : List View) (stands : Stands limit sea
           let p = times-push x v.finds word in
           let n = stands.state.next in
           grind (arith, nat_tests)
+
       nobody : (j : ℕ) → length views ≤ j → (b : Bool) → (j == seat) ≡ b → cond b ((after stands.draws).found j ++ (after stands.draws).next ∷ []) ((after stands.draws).found j) ≡ []
       nobody j far true e = let l = at_length views seat v at in absurd (grind (arith, nat_tests))
       nobody j far false e = stands.state.others j far
@@ -84,14 +86,14 @@ module _ (limit seats word : ℕ) (views : List View) (stands : Stands limit sea
   drawn_late : v.met ≡ false → length (past limit (all_finds (set views seat (finding word v)))) + sum_by open_parts (set views seat (finding word v)) ≤ seats
   drawn_late new =
       late_sum (nat_le limit word) _ _ _ _ _ _ _ _ _ v.parts seats
-          (past-all_set limit views seat v (finding word v) at)
-          (sum_by-at_set open_parts views seat v (finding word v) at)
-          (length-past-append limit v.finds (word ∷ []))
-          (one_past limit word)
-          (ap (λ b. cond b 0 v.parts) new)
-          (ap (λ k. cond (nat_le k word) 0 v.parts) mine.limit_is)
-          stands.few_late
-          some_part
+      (past-all_set limit views seat v (finding word v) at)
+      (sum_by-at_set open_parts views seat v (finding word v) at)
+      (length-past-append limit v.finds (word ∷ []))
+      (one_past limit word)
+      (ap (λ b. cond b 0 v.parts) new)
+      (ap (λ k. cond (nat_le k word) 0 v.parts) mine.limit_is)
+      stands.few_late
+      some_part
 
   drawn_all : v.met ≡ false → Stands limit seats (word + 1) (set views seat (finding word v))
   drawn_all new = record {
@@ -108,6 +110,7 @@ module _ (limit seats word : ℕ) (views : List View) (stands : Stands limit sea
     where
       more : (x : ℕ) → times x (all_finds (set views seat (finding word v))) ≡ times x (all_finds views) + tell (word == x)
       more x = omega (arith, times-all_set x views seat v (finding word v) at, times-push x v.finds word)
+
       late : nat_le v.limit word ≡ true → limit ≤ word + 1
       late met = let l = mine.limit_is in grind (arith, nat_tests)
 
@@ -138,7 +141,7 @@ module _ (limit seats word : ℕ) (views : List View) (stands : Stands limit sea
       ⊎_elim
       (λ t. each_set P views seat (less_a_part v) (λ k w apart e'. others k w e') left j u t)
       (λ (t : (j ≡ length (set views seat (less_a_part v))) × (of_one_part v ≡ u)).
-          subst (λ (y : ℕ × View). P y.0 y.1) (λ i. (sym (t.0 ∙ length_of_set views seat (less_a_part v)) i, t.1 i)) right)
+      subst (λ (y : ℕ × View). P y.0 y.1) (λ i. (sym (t.0 ∙ length_of_set views seat (less_a_part v)) i, t.1 i)) right)
       (at_push (set views seat (less_a_part v)) (of_one_part v) j u e)
 
   sum_by-split : (f : View → ℕ) → f (less_a_part v) + f (of_one_part v) ≡ f v → sum_by f (split_views views seat v) ≡ sum_by f views
@@ -199,7 +202,7 @@ module _ (limit seats word : ℕ) (views : List View) (stands : Stands limit sea
       → (j : ℕ) (u : View) → get_elem? (join_views views seat v other w) j ≡ some u → P j u
   each_join P others into gone =
       each_set P (set views seat (joined v w)) other spent
-          (λ j u far e. each_set (λ k x. k ≢ other → P k x) views seat (joined v w) (λ k x near e' far'. others k x near far' e') (λ _. into) j u e far) gone
+      (λ j u far e. each_set (λ k x. k ≢ other → P k x) views seat (joined v w) (λ k x near e' far'. others k x near far' e') (λ _. into) j u e far) gone
 
   sum_by-join : (f : View → ℕ) → sum_by f (join_views views seat v other w) + (f v + f w) ≡ sum_by f views + (f (joined v w) + f spent)
   sum_by-join f = omega (arith, sum_by-at_set f (set views seat (joined v w)) other w spent still_at, sum_by-at_set f views seat v (joined v w) at)
@@ -219,6 +222,7 @@ module _ (limit seats word : ℕ) (views : List View) (stands : Stands limit sea
     where
       both : (x : ℕ) {a b c d e f : ℕ} → a ≡ b + c → d ≡ e + f → e ≡ b → f ≡ c → d ≡ a
       both x p q r s = omega arith
+
       beyond : (k : ℕ) → length (join_views views seat v other w) ≤ k → length views ≤ k
       beyond k far = omega (arith, length_of_set (set views seat (joined v w)) other spent, length_of_set views seat (joined v w))
 
@@ -236,6 +240,7 @@ module _ (limit seats word : ℕ) (views : List View) (stands : Stands limit sea
     where
       same : (x : ℕ) → times x (all_finds (join_views views seat v other w)) ≡ times x (all_finds views)
       same x = omega (arith, times-all_finds x (join_views views seat v other w), times-all_finds x views, sum_by-join (λ (u : View). times x u.finds), times-append x v.finds w.finds)
+
       late : length (past limit (all_finds (join_views views seat v other w))) + sum_by open_parts (join_views views seat v other w) ≤ seats
       late = omega (
         arith,

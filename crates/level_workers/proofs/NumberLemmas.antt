@@ -1,9 +1,8 @@
 -- How often numbers stand in lists.
-use Rattle.std.proofs.Common.{◌≡◌, ◌≢◌, ℕ, zero, suc, ◌+◌, ◌-◌, ◌<◌, ◌≤◌, Bool, true, false, not, cond, List, [], ◌∷◌, ◌++◌, length, refl, sym, ap, ◌∙◌, subst, eqb, get_or, arith, zero-add, add-zero}
-use Rattle.std.specs.Prelude.{◌==◌, if◌then◌else◌, nat_lt, nat_le, count_by, filter}
+use Rattle.std.proofs.Common.{◌≡◌, ℕ, zero, suc, ◌+◌, ◌-◌, ◌<◌, ◌≤◌, Bool, true, false, not, cond, List, [], ◌∷◌, ◌++◌, length, refl, ap, ◌∙◌, get_or, arith}
+use Rattle.std.specs.Prelude.{◌==◌, nat_lt, nat_le, count_by, filter}
 use Rattle.std.proofs.lemmas.Bool.Decides.{nat_tests}
 use Rattle.std.proofs.lemmas.List.Sums.{sum_by-cons, sum_by-append, length-filter}
-use Rattle.std.proofs.lemmas.List.Elements.{filter-append}
 use Rattle.level_workers.specs.Numbers.{times, EachBelow, numbers_below, below, past}
 
 -- 1 where the test holds, and else 0
@@ -105,6 +104,7 @@ count_by-EachBelow p (suc n) xs each =
   where
     less : (x : ℕ) → times x (without n xs) ≡ tell (nat_lt x n)
     less x = let t = times-without n x xs in let e = each x in grind (arith, nat_tests)
+
     last : (a b c d e : ℕ) (q : Bool) (k : ℕ) → a ≡ b + cond q k 0 → b ≡ c → d ≡ c + e → e ≡ tell q + 0 → k ≡ 1 → a ≡ d
     last a b c d e true k h i j l m = omega arith
     last a b c d e false k h i j l m = omega arith

@@ -1,18 +1,16 @@
 -- Outputs by their numbers are the plain list.
-use Rattle.std.proofs.Common.{◌≡◌, ◌≢◌, ℕ, zero, suc, ◌+◌, ◌-◌, ◌<◌, ◌≤◌, Bool, true, false, cond, ◌&&◌, ◌⊎◌, inl, inr, ⊎_elim, List, [], ◌∷◌, ◌++◌, map, length, get_or, Option, Some, None, refl, sym, ap, ◌∙◌, subst, arith, zero-add}
-use Rattle.std.specs.Prelude.{◌==◌, sum_by, count_by, All, nat_lt, nat_le, slice_get, find, IsPermutation}
+use Rattle.std.proofs.Common.{◌≡◌, ℕ, zero, suc, ◌+◌, ◌<◌, ◌≤◌, Bool, true, false, cond, ◌&&◌, ◌⊎◌, inl, inr, ⊎_elim, List, [], ◌∷◌, ◌++◌, map, length, get_or, Option, Some, refl, sym, ap, ◌∙◌, subst, arith, zero-add}
+use Rattle.std.specs.Prelude.{◌==◌, sum_by, count_by, nat_lt, nat_le, slice_get, find}
 use Rattle.std.specs.List.{filter_map, cons_option}
-use Rattle.std.specs.List.Sorted.{IsNonDecreasing, IsNonDecreasingBy}
 use Rattle.std.specs.Option.{option_map}
 use Rattle.std.proofs.lemmas.Bool.Decides.{nat_tests}
 use Rattle.std.proofs.lemmas.List.{length-map, get_or-map, length_push}
 use Rattle.std.proofs.lemmas.List.Sums.{sum_by-cons}
 use Rattle.std.proofs.lemmas.List.Sorted.{All-permutation, sum_by-IsPermutation}
 use Rattle.std.proofs.lemmas.List.Elements.{All-head, All-tail, filter_map-append}
-use Rattle.std.proofs.lemmas.Option.{slice_get_within, get_or_from_slice_get}
 use Rattle.level_workers.specs.Numbers.{times, EachBelow, numbers_below}
 use Rattle.level_workers.specs.Outputs.{IsPlainList, numbers_of, AllGiven, output_of, placed, InOrder}
-use Rattle.level_workers.proofs.NumberLemmas.{tell, times-cons, times-at, count_by-cons, count_by-append, count_by-EachBelow}
+use Rattle.level_workers.proofs.NumberLemmas.{tell, times-cons, count_by-cons, count_by-append, count_by-EachBelow}
 
 times-somewhere : (x : ℕ) (xs : List ℕ) → 0 < times x xs → (k : ℕ) × (k < length xs) × (get_or xs k 0 ≡ x)
 times-somewhere x [] some = absurd (omega arith)
@@ -32,6 +30,7 @@ rising_at a n (y ∷ ys) each rising k l = go k l (λ rest k' l'. rising_at (a +
   where
     from_y : (a ≤ y) × (y < n)
     from_y = let t = times-cons y y ys in let e = each y in (grind (arith, nat_tests), grind (arith, nat_tests))
+
     first : y ≡ a
     first =
         let e = each a in
@@ -40,8 +39,10 @@ rising_at a n (y ∷ ys) each rising k l = go k l (λ rest k' l'. rising_at (a +
         let le = rising 0 at.0 (omega arith) at.1 in
         let f = from_y in
         omega arith
+
     rest_each : (x : ℕ) → times x ys ≡ tell (nat_le (a + 1) x && nat_lt x n)
     rest_each x = let t = times-cons x y ys in let e = each x in let f = first in let r = from_y in grind (arith, nat_tests)
+
     go : (i : ℕ) → i < length (y ∷ ys) → (((x : ℕ) → times x ys ≡ tell (nat_le (a + 1) x && nat_lt x n)) → (k' : ℕ) → k' < length ys → get_or ys k' 0 ≡ a + 1 + k') → get_or (y ∷ ys) i 0 ≡ a + i
     go zero l' ih = let f = first in omega arith
     go (suc i) l' ih = let f = ih rest_each i (omega arith) in omega arith
@@ -52,6 +53,7 @@ length-EachBelow n xs each = sym (all xs) ∙ count_by-EachBelow (λ _. true) n 
     all : (ys : List ℕ) → count_by (λ _. true) ys ≡ length ys
     all [] = refl
     all (y ∷ ys) = omega (arith, count_by-cons (λ _. true) y ys, all ys)
+
     below_n : (m : ℕ) → count_by (λ _. true) (numbers_below m) ≡ m
     below_n zero = refl
     below_n (suc m) = omega (arith, count_by-append (λ _. true) (numbers_below m) (m ∷ []), count_by-cons (λ _. true) m [], below_n m)
@@ -90,8 +92,10 @@ module _ {A : Type 0} where
       where
         ys : List (ℕ × A)
         ys = order.sorted
+
         each' : EachBelow n (numbers_of order.sorted)
         each' x = times-beside x order.sorted ∙ sum_by-IsPermutation (λ (o : ℕ × A). tell (o.0 == x)) outputs order.sorted order.moved ∙ sym (times-beside x outputs) ∙ each x
+
         rising : (i j : ℕ) → i ≤ j → j < length (numbers_of order.sorted) → get_or (numbers_of order.sorted) i 0 ≤ get_or (numbers_of order.sorted) j 0
         rising i j le lt =
             let short : j < length order.sorted = omega (arith, length-map order.sorted (λ (o : ℕ × A). o.0)) in
@@ -99,16 +103,18 @@ module _ {A : Type 0} where
             let at_i = get_or-map (λ (o : ℕ × A). o.0) order.sorted i d 0 (omega arith) in
             let at_j = get_or-map (λ (o : ℕ × A). o.0) order.sorted j d 0 short in
             omega (arith, order.rising i j d le short)
+
         from_zero : (x : ℕ) → times x (numbers_of order.sorted) ≡ tell (nat_le 0 x && nat_lt x n)
         from_zero x = let e = each' x in grind (arith, nat_tests)
+
         place : (k : ℕ) (x : A) → slice_get (map (λ (o : ℕ × A). o.1) order.sorted) k ≡ Some x → gives k x
         place k x e =
             let at = output_at order.sorted k x e in
             let d : ℕ × A = (0, x) in
             let given' = All-permutation (λ (o : ℕ × A). gives o.0 o.1) outputs order.sorted order.moved given in
             let number : (get_or order.sorted k d).0 ≡ k =
-                sym (get_or-map (λ (o : ℕ × A). o.0) order.sorted k d 0 at.0)
-                    ∙ (rising_at 0 n (numbers_of order.sorted) from_zero rising k (omega (arith, at.0, length-map order.sorted (λ (o : ℕ × A). o.0))) ∙ zero-add k) in
+            sym (get_or-map (λ (o : ℕ × A). o.0) order.sorted k d 0 at.0)
+            ∙ (rising_at 0 n (numbers_of order.sorted) from_zero rising k (omega (arith, at.0, length-map order.sorted (λ (o : ℕ × A). o.0))) ∙ zero-add k) in
             subst (λ m. gives m x) number (subst (λ y. gives (get_or order.sorted k d).0 y) at.1 (given' k d at.0))
 
     plain_push : (m : ℕ) (xs : List A) (y : A) → IsPlainList gives m xs → gives m y → IsPlainList gives (suc m) (xs ++ y ∷ [])
@@ -140,7 +146,7 @@ module _ {A : Type 0} where
         let last = has m (omega arith) in
         let rest = filled h m (λ k lt. has k (omega arith)) in
         let made : filter_map h (numbers_below m) ++ last.0 ∷ [] ≡ filter_map h (numbers_below (suc m)) =
-            ap (λ o. filter_map h (numbers_below m) ++ cons_option o []) (sym last.1) ∙ sym (filter_map-append h (numbers_below m) (m ∷ [])) in
+        ap (λ o. filter_map h (numbers_below m) ++ cons_option o []) (sym last.1) ∙ sym (filter_map-append h (numbers_below m) (m ∷ [])) in
         subst (IsPlainList gives (suc m)) made (plain_push m (filter_map h (numbers_below m)) last.0 rest last.2)
 
     pub placed_plain : (outputs : List (ℕ × A)) → EachBelow n (numbers_of outputs) → AllGiven gives outputs → IsPlainList gives n (placed n outputs)

@@ -1,12 +1,12 @@
 -- What the rule of a board says of its word and of one seat.
-use Rattle.std.proofs.Common.{◌≡◌, ◌≢◌, ℕ, zero, suc, ◌+◌, ◌-◌, ◌<◌, ◌≤◌, Bool, true, false, cond, ◌⊎◌, inl, inr, ⊎_elim, List, [], ◌∷◌, ◌++◌, length, set, refl, sym, ap, ◌∙◌, subst, arith}
+use Rattle.std.proofs.Common.{◌≡◌, ℕ, ◌+◌, ◌<◌, ◌≤◌, ⊎_elim, List, sym, ap, ◌∙◌, subst, arith}
 use Rattle.std.specs.Prelude.{sum_by}
 use mathlib.Core.Option.{some}
 use lib.ListN.{get_elem?}
 use Rattle.std.proofs.lemmas.Bool.Decides.{nat_tests}
 use Rattle.level_workers.specs.declared.view.View.{View}
-use Rattle.level_workers.specs.Numbers.{times, EachBelow, NoneTwice, below, past}
-use Rattle.level_workers.specs.Views.{spent, all_finds, open_parts}
+use Rattle.level_workers.specs.Numbers.{times, EachBelow, NoneTwice}
+use Rattle.level_workers.specs.Views.{spent, all_finds}
 use Rattle.level_workers.specs.Rule.{Sits, Stands, Tells}
 use Rattle.level_workers.proofs.NumberLemmas.{tell, EachBelow-below, EachBelow-same, length-past}
 use Rattle.level_workers.proofs.TotalLemmas.{le-sum_by, sum_by-alone, times-all_finds}
@@ -47,6 +47,6 @@ module _ (limit seats word : ℕ) (views : List View) (stands : Stands limit sea
         all = λ whole met.
             let all_parts : sum_by (λ (u : View). u.parts) views ≡ v.parts = stands.parts ∙ sym s.seats_is ∙ sym whole in
             let each : EachBelow word v.finds = EachBelow-same word (all_finds views) v.finds stands.each_once
-                (λ x. sym (times-all_finds x views ∙ sum_by-alone (λ (u : View). times x u.finds) (λ (u : View). u.parts) views seat v (λ k u at' none. no_finds x k u at' none) at all_parts)) in
+            (λ x. sym (times-all_finds x views ∙ sum_by-alone (λ (u : View). times x u.finds) (λ (u : View). u.parts) views seat v (λ k u at' none. no_finds x k u at' none) at all_parts)) in
             EachBelow-below word v.limit v.finds (subst (λ k. k ≤ word) (sym s.limit_is) (s.met_late met)) each;
       }

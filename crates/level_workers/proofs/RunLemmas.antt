@@ -1,12 +1,12 @@
 -- Seats that have drawn until they met the limit, joined; and their outputs in order.
-use Rattle.std.proofs.Common.{◌≡◌, ◌≢◌, ℕ, zero, suc, ◌+◌, ◌-◌, ◌<◌, ◌≤◌, Bool, true, false, ◌||◌, List, [], ◌∷◌, ◌++◌, map, length, get_or, take, drop, Some, None, refl, sym, ap, ◌∙◌, subst, arith}
-use Rattle.std.specs.Prelude.{sum_by, All, nat_lt}
+use Rattle.std.proofs.Common.{◌≡◌, ℕ, ◌+◌, ◌||◌, List, ◌++◌, take, drop, sym, ap, ◌∙◌, subst, arith}
+use Rattle.std.specs.Prelude.{nat_lt}
 use Rattle.std.proofs.lemmas.List.Elements.{All-append, filter-append}
 use Rattle.std.proofs.lemmas.List.{map-append}
 use Rattle.std.proofs.lemmas.List.Sums.{sum_by-take-drop}
 use Rattle.level_workers.specs.Numbers.{below}
 use Rattle.level_workers.specs.Seats.{Board, Held, drawn, with_seat, parts_of, DrewAllIfWhole}
-use Rattle.level_workers.specs.Outputs.{numbers_of, AllGiven, IsDone, InOrder, IsPlainList}
+use Rattle.level_workers.specs.Outputs.{numbers_of, IsDone}
 
 module _ {A : Type 0} (gives : ℕ → A → Type 0) (board : Board) where
   pub IsDone-joined : (p q parts : ℕ) (outputs rest items : List (ℕ × A)) (a b after : Held) → IsDone gives board p outputs a → IsDone gives board q rest b
@@ -28,4 +28,3 @@ module _ {A : Type 0} (gives : ℕ → A → Type 0) (board : Board) where
 
 pub parts_of-cut : (seats : List Held) (n : ℕ) → parts_of (take n seats) + parts_of (drop n seats) ≡ parts_of seats
 parts_of-cut seats n = sum_by-take-drop (λ (h : Held). h.parts) seats n
-

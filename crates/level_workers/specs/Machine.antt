@@ -1,5 +1,5 @@
 -- The ticket machine. Seats draw numbers from it, one draw after another, and each draw finds the next number.
-use Rattle.std.specs.Prelude.{◌≡◌, ℕ, ◌+◌, ◌<◌, ◌≤◌, List, [], ◌∷◌, ◌++◌, ◌==◌, if◌then◌else◌, fold, flat_map, All, Any}
+use Rattle.std.specs.Prelude.{ℕ, ◌+◌, ◌<◌, ◌≤◌, List, [], ◌∷◌, ◌++◌, ◌==◌, if◌then◌else◌, fold, flat_map, All, Any}
 use Rattle.level_workers.specs.Numbers.{numbers_below}
 
 -- a state: the next number, and the numbers that each seat has found, in order

@@ -43,4 +43,3 @@ pub record IsDone {A : Type 0} (gives : ℕ → A → Type 0) (board : Board) (p
   pub numbers : numbers_of outputs ≡ drawn seat
   pub given : AllGiven gives outputs
   pub all : DrewAllIfWhole seat
-

@@ -1,5 +1,5 @@
 -- What a seat knows of its board.
-use Rattle.std.specs.Prelude.{ℕ, ◌+◌, ◌-◌, Bool, true, false, ◌||◌, List, [], ◌∷◌, ◌++◌, nat_le, if◌then◌else◌, flat_map}
+use Rattle.std.specs.Prelude.{ℕ, ◌+◌, ◌-◌, false, ◌||◌, List, [], ◌∷◌, ◌++◌, nat_le, if◌then◌else◌, flat_map}
 use Rattle.level_workers.specs.declared.view.View.{View}
 
 -- a seat that has all parts and has drawn nothing

@@ -8,11 +8,7 @@ use atomic_table::Table;
 use std::alloc::{AllocError, Global};
 
 /// A board for the numbers below `limit`, and its first seat, which has all its parts.
-pub fn tickets(
-    alloc: Global,
-    limit: u32,
-    seats: u32,
-) -> Result<(Tickets, TicketSeat), AllocError>
+pub fn tickets(alloc: Global, limit: u32, seats: u32) -> Result<(Tickets, TicketSeat), AllocError>
     requires { 1 ≤ seats }
     ensures board { IfOk result (λ r. (r.0.limit ≡ limit) × (r.0.seats ≡ seats)) }
     ensures seat { IfOk result (λ r. r.1 ≡ fresh r.0 seats) }

@@ -17,8 +17,5 @@ pub(crate) fn in_order<O: Drop>(
 fn without_numbers<O: Drop>(alloc: Global, outputs: Vec<(u32, O)>) -> Result<Vec<O>, AllocError>
     ensures { IfOk result (λ xs. xs.items ≡ map (λ output. output.1) outputs.items) }
 {
-    outputs
-        .into_iter()
-        .map(|(_, output)| output)
-        .collect(alloc)
+    outputs.into_iter().map(|(_, output)| output).collect(alloc)
 }

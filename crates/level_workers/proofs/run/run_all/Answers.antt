@@ -1,8 +1,6 @@
 use Rattle.std.proofs.Common.{◌≡◌, sym, ap, ◌∙◌, subst}
-use Rattle.std.proofs.lemmas.Result.{IfOk-at_ok}
 use Rattle.level_workers.specs.Numbers.{EachBelow}
-use Rattle.level_workers.specs.Seats.{Board, Held, drawn}
-use Rattle.level_workers.specs.Outputs.{InOrder}
+use Rattle.level_workers.specs.Seats.{Board, drawn}
 use Rattle.level_workers.proofs.PlainLemmas.{InOrder-plain}
 use Rattle.level_workers.proofs.run.run_all.Goals as goal
 

@@ -1,4 +1,4 @@
-use Rattle.std.proofs.Common.{◌≡◌, ◌<◌, sym, ap, ◌∙◌, arith}
+use Rattle.std.proofs.Common.{sym, ap, ◌∙◌, arith}
 use Rattle.level_workers.specs.Seats.{Board, Held}
 use Rattle.level_workers.proofs.Moves.{draws}
 use Rattle.level_workers.proofs.board.Tickets.draw.Goals as goal

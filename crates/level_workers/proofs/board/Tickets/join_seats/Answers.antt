@@ -1,4 +1,4 @@
-use Rattle.std.proofs.Common.{◌≡◌, ◌+◌, ◌<◌, ◌≤◌, ◌++◌, sym, ap, ◌∙◌, subst, arith}
+use Rattle.std.proofs.Common.{◌≡◌, ◌+◌, ◌++◌, sym, ap, ◌∙◌, subst, arith}
 use Rattle.atomic_table.specs.Table.{Me}
 use Rattle.level_workers.specs.declared.view.View.{View}
 use Rattle.level_workers.specs.Numbers.{NoneTwice}
@@ -36,6 +36,6 @@ pub returns-clause-apart : goal.returns-clause-apart
 returns-clause-apart c =
     let looked = c.load.ensures.2.1 in
     let known : c.load.new.seat.me.0.finds ≡ c.args.into.now.finds ++ c.args.other.finds =
-        ap (λ (v : View). v.finds) looked.view ∙ ap (λ (m : Me (Unit {0}) View). m.0.finds) c.join_seat.ensures.2
-            ∙ ap (λ (h : Held). h.finds ++ c.other.inside.seat.me.0.finds) c.into.view_is ∙ ap (λ (h : Held). c.args.into.now.finds ++ h.finds) c.other.view_is in
+    ap (λ (v : View). v.finds) looked.view ∙ ap (λ (m : Me (Unit {0}) View). m.0.finds) c.join_seat.ensures.2
+    ∙ ap (λ (h : Held). h.finds ++ c.other.inside.seat.me.0.finds) c.into.view_is ∙ ap (λ (h : Held). c.args.into.now.finds ++ h.finds) c.other.view_is in
     subst NoneTwice known looked.tells.once

@@ -1,4 +1,4 @@
-use Rattle.std.proofs.Common.{◌≡◌, ◌<◌, ◌≤◌, sym, ap, ◌∙◌, subst, arith}
+use Rattle.std.proofs.Common.{◌≤◌, sym, ap, ◌∙◌, subst, arith}
 use Rattle.level_workers.specs.Seats.{Board, Held}
 use Rattle.level_workers.proofs.Moves.{splits}
 use Rattle.level_workers.proofs.board.Tickets.split.Goals as goal
