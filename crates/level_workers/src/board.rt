@@ -59,6 +59,7 @@ impl Tickets {
     /// limit, and draws no more.
     pub fn draw(&self, seat: &mut TicketSeat) -> Option<u32>
         requires { seat.old.board ≡ self.now }
+        ensures same { (seat.new.board ≡ seat.old.board) × (seat.new.parts ≡ seat.old.parts) }
         ensures found { seat.old.met ≡ false → Finds seat.old result seat.new }
         ensures met { seat.old.met ≡ true → (result ≡ None) × (seat.new ≡ seat.old) }
         ensures all { seat.old.met ≡ false → DrewAllIfWhole seat.new }

@@ -19,3 +19,6 @@ pub use laws::{
 pub use opening::tickets;
 pub use run::run_all;
 pub use task::{Gate, NoGate, Task};
+
+#[cfg(test)]
+mod tests;
