@@ -26,5 +26,7 @@ module _ {A : Type 0} (gives : ℕ → A → Type 0) (board : Board) where
       limits : b.board.limit ≡ a.board.limit
       limits = ap (λ (x : Board). x.limit) (back.board_is ∙ sym front.board_is)
 
-pub parts_of-cut : (seats : List Held) (n : ℕ) → parts_of (take n seats) + parts_of (drop n seats) ≡ parts_of seats
-parts_of-cut seats n = sum_by-take-drop (λ (h : Held). h.parts) seats n
+-- the parts of the seats before a place and of those from it on
+pub parts_of-halves : (seats low high : List Held) (n : ℕ) → low ≡ take n seats → high ≡ drop n seats → parts_of low + parts_of high ≡ parts_of seats
+parts_of-halves seats low high n front back =
+    ap (λ (l : List Held). parts_of l + parts_of high) front ∙ ap (λ (l : List Held). parts_of (take n seats) + parts_of l) back ∙ sum_by-take-drop (λ (h : Held). h.parts) seats n

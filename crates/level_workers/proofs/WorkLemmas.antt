@@ -42,12 +42,12 @@ module _ {A : Type 0} (gives : ℕ → A → Type 0) (board : Board) (parts : �
   below-push : (limit : ℕ) (xs : List ℕ) (n : ℕ) → below limit (xs ++ n ∷ []) ≡ below limit xs ++ cond (nat_lt n limit) (n ∷ []) []
   below-push limit xs n = filter-append (λ k. nat_lt k limit) xs (n ∷ [])
 
-  pub Works-more : (outputs : List (ℕ × A)) (before after : Held) (k : ℕ) (x : A) → Works outputs before → Finds before (Some k) after → gives k x → Works (outputs ++ (k, x) ∷ []) after
-  Works-more outputs before after k x works found given =
+  pub Works-more : (outputs items : List (ℕ × A)) (before after : Held) (k : ℕ) (x : A) → items ≡ outputs ++ (k, x) ∷ [] → Works outputs before → Finds before (Some k) after → gives k x → Works items after
+  Works-more outputs items before after k x more works found given =
       let n = found.0 in
       let is = some_found (nat_lt n before.board.limit) n k found.1 in
       let e : with_find before n ≡ after = sym found.2 in
-      subst (Works (outputs ++ (k, x) ∷ [])) e record {
+      subst (λ l. Works l after) (sym more) (subst (Works (outputs ++ (k, x) ∷ [])) e record {
         board_is = works.board_is;
         parts_are = works.parts_are;
         not_met = (let t = is.0 in grind (arith, nat_tests));
@@ -56,7 +56,7 @@ module _ {A : Type 0} (gives : ℕ → A → Type 0) (board : Board) (parts : �
             ∙ ap (λ m. drawn before ++ m ∷ []) (sym is.1)
             ∙ sym (below-push before.board.limit before.finds n ∙ ap (λ b. drawn before ++ cond b (n ∷ []) []) is.0);
         given = All-push (λ (o : ℕ × A). gives o.0 o.1) outputs (k, x) works.given given;
-      }
+      })
 
   pub Works-end : (outputs : List (ℕ × A)) (before after : Held) → Works outputs before → Finds before None after → DrewAllIfWhole after → IsDone gives board parts outputs after
   Works-end outputs before after works found all =

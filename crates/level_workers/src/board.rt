@@ -1,5 +1,5 @@
 //! Boards from which numbers are drawn, and seats that draw them.
-ghost use Rattle.std.specs.Prelude.{◌≡◌, ◌≤◌, true, false, ◌++◌, None};
+ghost use Rattle.std.specs.Prelude.{◌≡◌, ◌≤◌, true, false, ◌++◌, None, IfNone};
 ghost use Rattle.level_workers.specs.Numbers.{NoneTwice};
 ghost use Rattle.level_workers.specs.Seats.{Finds, one_part, without_part, with_seat, DrewAllIfWhole};
 
@@ -62,6 +62,7 @@ impl Tickets {
         ensures same { (seat.new.board ≡ seat.old.board) × (seat.new.parts ≡ seat.old.parts) }
         ensures found { seat.old.met ≡ false → Finds seat.old result seat.new }
         ensures met { seat.old.met ≡ true → (result ≡ None) × (seat.new ≡ seat.old) }
+        ensures none { IfNone result (seat.new.met ≡ true) }
         ensures all { seat.old.met ≡ false → DrewAllIfWhole seat.new }
     {
         if seat.met {

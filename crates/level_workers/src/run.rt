@@ -70,14 +70,16 @@ fn run_seats<O: Send + Drop, T: Task<Out = O> + Sync, G: Gate + Sync, R: Threads
 
 /// Does the tasks of all numbers below the board's limit, by one worker for each part of the seat. Gives their outputs in
 /// the order of the numbers, and the seat, which has drawn all of them.
-pub fn run_all<O: Send + Drop, T: Task<Out = O> + Sync, G: Gate + Sync, R: Threads + Sync>(
+pub fn run_all<T: Task + Sync, G: Gate + Sync, R: Threads + Sync>(
     rt: &R,
     alloc: Global,
     task: &T,
     board: &Tickets,
     seat: TicketSeat,
     gate: &G,
-) -> Result<(Vec<O>, TicketSeat), AllocError>
+) -> Result<(Vec<T::Out>, TicketSeat), AllocError>
+where
+    T::Out: Send,
     requires fresh { IsFresh board.now seat }
     requires whole { seat.parts ≡ board.now.seats }
     requires workers { seat.parts ≤ 64 }

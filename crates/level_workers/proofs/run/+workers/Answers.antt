@@ -1,8 +1,6 @@
-use Rattle.std.proofs.Common.{◌≡◌, ◌+◌, List, ap₂, ◌∙◌}
 use Rattle.std.proofs.lemmas.Result.{IfOk-at_ok}
-use Rattle.level_workers.specs.Seats.{Held, parts_of}
 use Rattle.level_workers.specs.Outputs.{IsDone}
-use Rattle.level_workers.proofs.RunLemmas.{IsDone-joined, parts_of-cut}
+use Rattle.level_workers.proofs.RunLemmas.{IsDone-joined, parts_of-halves}
 use Rattle.level_workers.proofs.run.+workers.Goals as goal
 
 pub returns : goal.returns
@@ -12,5 +10,5 @@ returns g t c =
     let board = c.args.board.now in
     let front = IfOk-at_ok (λ done. IsDone gives board _ done.0.items done.1) c.in_ok-outputs.was c.join-first.ensures.first in
     let back = IfOk-at_ok (λ done. IsDone gives board _ done.0.items done.1) c.in_ok-rest.was c.join-first.ensures.second in
-    let sum : parts_of c.split_off.new.self.items + parts_of c.in_ok-others.others.items ≡ parts_of c.args.seats.items = ap₂ (λ (low high : List Held). parts_of low + parts_of high) cut.items cut.tail ∙ parts_of-cut c.args.seats.items _ in
+    let sum = parts_of-halves c.args.seats.items c.split_off.new.self.items c.in_ok-others.others.items _ cut.items cut.tail in
     IsDone-joined gives board _ _ _ _ _ _ _ _ _ front back c.join_seats.ensures.both c.join_seats.ensures.all sum c.in_ok-append.ensures.items

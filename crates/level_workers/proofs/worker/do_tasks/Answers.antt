@@ -1,6 +1,5 @@
-use Rattle.std.proofs.Common.{subst, sym}
 use Rattle.std.proofs.lemmas.Result.{IfOk-at_ok}
-use Rattle.level_workers.proofs.WorkLemmas.{Works, Works-more, Works-falls}
+use Rattle.level_workers.proofs.WorkLemmas.{Works-more, Works-falls}
 use Rattle.level_workers.proofs.worker.do_tasks.Goals as goal
 
 pub loop-number-smaller : goal.loop-number-smaller
@@ -12,5 +11,5 @@ pub loop-number-preserved : goal.loop-number-preserved
 loop-number-preserved g c =
     let w = c.loop-number.invariant in
     let given = IfOk-at_ok (g.T.Task.gives c.args.task.now c.in-Some.number) c.in_ok-output.was c.run-output.ensures in
-    subst (λ items. Works (g.T.Task.gives c.args.task.now) c.args.board.now c.args.seat.parts items c.draw.new.seat) (sym c.in_ok-push.ensures.items)
-    (Works-more (g.T.Task.gives c.args.task.now) c.args.board.now c.args.seat.parts _ c.loop-number.seat c.draw.new.seat c.in-Some.number c.in_ok-output.field-0 w (c.in-Some.ensures.found w.not_met) given)
+    Works-more (g.T.Task.gives c.args.task.now) c.args.board.now c.args.seat.parts c.loop-number.outputs.items c.push.new.self.items c.loop-number.seat c.draw.new.seat c.in-Some.number c.in_ok-output.field-0
+    c.in_ok-push.ensures.items w (c.in-Some.ensures.found w.not_met) given
