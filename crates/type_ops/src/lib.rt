@@ -1,0 +1,13 @@
+//! Types made of types, over arenas: unions, meets, what types become where heaps change, and normal forms.
+#![tactic(auto)]
+
+mod comparing;
+mod copying;
+mod joining;
+mod normalizing;
+mod pairs;
+mod places;
+mod sets;
+mod sorting;
+
+pub use joining::union;
