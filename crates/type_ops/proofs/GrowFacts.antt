@@ -1,8 +1,8 @@
 -- What calls on an arena, one after another, add to it, and what is reached from what they answer.
-use Rattle.std.proofs.Common.{◌≡◌, ℕ, zero, ◌<◌, List, [], ◌∷◌, ◌++◌, refl, sym, ap, ◌∙◌, subst, arith}
+use Rattle.std.proofs.Common.{◌≡◌, ℕ, zero, ◌<◌, List, [], ◌∷◌, ◌++◌, get_or, refl, sym, ap, ◌∙◌, subst, arith}
 use Rattle.std.specs.Prelude.{◌⊎◌, Option, Some, None, IsTrue, All, Contains}
 use Rattle.std.proofs.Common.{inl, inr}
-use Rattle.std.proofs.lemmas.List.Elements.{All-nil, All-cons, All-contains, All-weaker, All-append}
+use Rattle.std.proofs.lemmas.List.Elements.{All-nil, All-cons, All-contains, All-weaker, Contains-get_or}
 use Rattle.type_arena.specs.Arena.{home_of, nodes_of, below_of, store_of}
 use Rattle.type_arena.specs.Homes.{Reaches, itself, through, ReachesHome, by_ref, by_literal, Given, MayUse, own_home, given_literal, reached, UsesHomes, literal_homes}
 use Rattle.type_arena.specs.Meaning.{term_of, fields_by, rows_by}
@@ -14,7 +14,7 @@ use Rattle.type_arena.specs.declared.node.Row.{Row}
 use Rattle.type_arena.specs.declared.node.TypeRef.{TypeRef}
 use Rattle.type_arena.proofs.MeaningLemmas.{fields_by-same, rows_by-same, Reaches-there, has-kept}
 use Rattle.type_normal.specs.Adds.{Adds}
-use Rattle.type_normal.proofs.AddsFacts.{there_kept}
+use Rattle.type_normal.proofs.AddsFacts.{there_kept, adds_none}
 use Rattle.type_ops.specs.Growing.{given_refs, IsClean}
 
 nothing_in : {X : Type 0} (x : X) → Contains [] x → ⊥
@@ -227,3 +227,17 @@ pub rows_kept : (a b : Arena) (given : Given) (xs : List TypeRef) → Adds a b g
     → rows_by (term_of (store_of b)) rows ≡ rows_by (term_of (store_of a)) rows
 rows_kept a b given xs adds rows there =
     rows_by-same (term_of (store_of b)) (term_of (store_of a)) rows (λ child inside. adds.kept child (All-contains (λ at. IsTrue (has (store_of a) at)) (row_types rows) child there inside))
+
+-- what clean references may use
+pub clean_may : (a b : Arena) (given : Given) (refs : List TypeRef) → All (IsClean a b given) refs → home_of b ≡ home_of a
+    → (home : ℕ) → MayUse (store_of b) (home_of b) (given_refs refs) home → MayUse (store_of a) (home_of a) given home
+clean_may a b given refs clean same home own_home = subst (λ (own : ℕ). MayUse (store_of a) (home_of a) given own) (sym same) own_home
+clean_may a b given refs clean same home (given_literal h inside) = absurd (nothing_in h inside)
+clean_may a b given refs clean same home (reached at h inside way) = All-contains (IsClean a b given) refs at clean inside h way
+
+-- a node that wasn't interned
+pub adds_failed : (a b c : Arena) (refs : List TypeRef) → All (λ at. IsTrue (has (store_of a) at)) refs → Adds a b (given_refs refs) [] → below_of c ≡ below_of b → home_of c ≡ home_of b → nodes_of c ≡ nodes_of b
+    → Adds a c (given_refs refs) []
+adds_failed a b c refs there adds below home nodes =
+    adds_more a b c (given_refs refs) (given_refs refs) [] [] adds (adds_none b c (given_refs refs) below home nodes)
+    (clean_may a b (given_refs refs) refs (λ k d l. clean_given a b refs [] (get_or refs k d) adds (there k d l) (Contains-get_or refs k d l)) adds.home)

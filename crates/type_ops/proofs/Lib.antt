@@ -6,3 +6,4 @@ pub mod GrowFacts
 pub mod NormalFacts
 pub mod SetFacts
 pub mod JoinFacts
+pub mod ChangeFacts

@@ -4,3 +4,4 @@ pub mod Comparing
 pub mod Joined
 pub mod Growing
 pub mod Normalized
+pub mod Changed

@@ -9,5 +9,8 @@ mod pairs;
 mod places;
 mod sets;
 mod sorting;
+mod widening;
+mod written;
 
 pub use joining::union;
+pub use widening::{widen, widen_at};
