@@ -24,6 +24,7 @@ use Rattle.type_normal.proofs.RowsFacts.{all_fewer}
 use Rattle.type_normal.proofs.ShapeFacts.{field_item_holds, row_item_hold}
 use Rattle.type_ops.specs.Changed.{may_be_written, changed, changed_rows, changed_fields, raw_rows, IsChange, Changes, AreChanges}
 use Rattle.type_ops.specs.Growing.{given_refs, IsClean}
+use Rattle.type_ops.specs.Lists.{append_rows}
 use Rattle.type_ops.specs.Normalized.{normal_of}
 use Rattle.type_ops.specs.declared.written.Written.{Written}
 use Rattle.type_ops.specs.declared.written.Written.TheVariants.{AnyField, Named}
@@ -54,21 +55,17 @@ row_weight means [] i d l = absurd (omega arith)
 row_weight means (r ∷ rows) zero d l = omega arith
 row_weight means (r ∷ rows) (suc i) d l = let h = row_weight means rows i d (omega arith) in omega arith
 
--- lists of fields and of rows, one behind the other
+-- lists of fields, one behind the other
 abbrev pub append_fields : Fields → Fields → Fields
 append_fields no_fields others = others
 append_fields (more_fields name type fields) others = more_fields name type (append_fields fields others)
-
-abbrev pub append_rows : Rows → Rows → Rows
-append_rows no_rows others = others
-append_rows (more_rows frozen fields rows) others = more_rows frozen fields (append_rows rows others)
 
 fields_push : (means : TypeRef → Term) (fields : List (List ℕ × TypeRef)) (f : List ℕ × TypeRef) (rest : Fields)
     → append_fields (fields_by means (fields ++ f ∷ [])) rest ≡ append_fields (fields_by means fields) (more_fields f.0 (means f.1) rest)
 fields_push means [] f rest = refl
 fields_push means (g ∷ fields) f rest = ap (more_fields g.0 (means g.1)) (fields_push means fields f rest)
 
-rows_push : (means : TypeRef → Term) (rows : List Row) (r : Row) (rest : Rows)
+pub rows_push : (means : TypeRef → Term) (rows : List Row) (r : Row) (rest : Rows)
     → append_rows (rows_by means (rows ++ r ∷ [])) rest ≡ append_rows (rows_by means rows) (more_rows r.frozen (fields_by means r.fields) rest)
 rows_push means [] r rest = refl
 rows_push means (s ∷ rows) r rest = ap (more_rows s.frozen (fields_by means s.fields)) (rows_push means rows r rest)
@@ -77,16 +74,16 @@ fields_none_more : (fs : Fields) → append_fields fs no_fields ≡ fs
 fields_none_more no_fields = refl
 fields_none_more (more_fields n t fs) = ap (more_fields n t) (fields_none_more fs)
 
-rows_none_more : (r : Rows) → append_rows r no_rows ≡ r
+pub rows_none_more : (r : Rows) → append_rows r no_rows ≡ r
 rows_none_more no_rows = refl
 rows_none_more (more_rows b fs r) = ap (more_rows b fs) (rows_none_more r)
 
-drop_all : {X : Type 0} (ys : List X) → drop (length ys) ys ≡ []
+pub drop_all : {X : Type 0} (ys : List X) → drop (length ys) ys ≡ []
 drop_all [] = refl
 drop_all (y ∷ ys) = drop_all ys
 
 -- references of fields that were pushed
-field_push : (fields : List (List ℕ × TypeRef)) (f : List ℕ × TypeRef) → field_types (fields ++ f ∷ []) ≡ field_types fields ++ f.1 ∷ []
+pub field_push : (fields : List (List ℕ × TypeRef)) (f : List ℕ × TypeRef) → field_types (fields ++ f ∷ []) ≡ field_types fields ++ f.1 ∷ []
 field_push [] f = refl
 field_push (g ∷ fields) f = ap (λ zs. g.1 ∷ zs) (field_push fields f)
 
@@ -95,7 +92,7 @@ all_field_push P fields new name at e all p =
     subst (λ (zs : List (List ℕ × TypeRef)). All P (field_types zs)) (sym e)
     (subst (λ (zs : List TypeRef). All P zs) (sym (field_push fields (name, at))) (All-append P (field_types fields) (at ∷ []) all (All-cons P at [] p (All-nil P))))
 
-all_row_push : (P : TypeRef → Type 0) (rows new : List Row) (row : Row) → new ≡ rows ++ row ∷ [] → All P (row_types rows) → All P (field_types row.fields) → All P (row_types new)
+pub all_row_push : (P : TypeRef → Type 0) (rows new : List Row) (row : Row) → new ≡ rows ++ row ∷ [] → All P (row_types rows) → All P (field_types row.fields) → All P (row_types new)
 all_row_push P rows new row e all p =
     subst (λ (zs : List Row). All P (row_types zs)) (sym e)
     (subst (λ (zs : List TypeRef). All P zs) (sym (append_refs rows (row ∷ [])))

@@ -7,3 +7,6 @@ pub mod NormalFacts
 pub mod SetFacts
 pub mod JoinFacts
 pub mod ChangeFacts
+pub mod NameFacts
+pub mod MeetFacts
+pub mod MetTypeFacts

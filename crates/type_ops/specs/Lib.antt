@@ -5,3 +5,5 @@ pub mod Joined
 pub mod Growing
 pub mod Normalized
 pub mod Changed
+pub mod Lists
+pub mod Met

@@ -4,6 +4,8 @@
 mod comparing;
 mod copying;
 mod joining;
+mod meeting;
+mod names;
 mod normalizing;
 mod pairs;
 mod places;
@@ -13,4 +15,5 @@ mod widening;
 mod written;
 
 pub use joining::union;
+pub use meeting::meet;
 pub use widening::{widen, widen_at};
