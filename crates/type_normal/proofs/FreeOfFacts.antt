@@ -6,7 +6,7 @@ use Rattle.std.specs.declared.cmp.Ordering.{Ordering}
 use Rattle.std.specs.declared.cmp.Ordering.TheVariants.{Less, Equal, Greater}
 use Rattle.std.proofs.lemmas.Slice.Eq.{bytes_eq-Decides}
 use Rattle.type_arena.specs.Term.{Term, term, Rows, no_rows, more_rows, Fields, no_fields, more_fields}
-use Rattle.luau_values.specs.Value.{Value, Tab}
+use Rattle.luau_values.specs.Value.{Value, Nil, Truth, Num, Str, Tab, Lit, Builtin, Other}
 use Rattle.luau_values.specs.Heap.{Heap, is_frozen, field_of, with_field}
 use Rattle.luau_values.proofs.Public.{write_marks, write_leaves, write_spares, write_reads}
 use Rattle.type_normal.specs.Members.{by_order}
@@ -335,3 +335,15 @@ rows_with_written h a p u s (more_rows b fs r) e n l new k =
 pub row_written : (h : Heap) (a : ℕ) (p : List ℕ) (u : Value) (t s : Term) → free_of_name p t ≡ true → a < length h → is_frozen h a ≡ false
     → holds h (Tab a) t ≡ true → holds (with_field a p u h) u s ≡ true → holds (with_field a p u h) (Tab a) (with_row_field p s t) ≡ true
 row_written h a p u (term f r) s e l n k new = rows_with_written h a p u s r e n l new k
+
+-- what is no table belongs to a type by its free part
+pub row_beside : (h : Heap) (v : Value) (p : List ℕ) (s t : Term) → ((a : ℕ) → v ≡ Tab a → ⊥) → holds h v (with_row_field p s t) ≡ holds h v t
+row_beside h Nil p s (term f r) n = refl
+row_beside h (Truth true) p s (term f r) n = refl
+row_beside h (Truth false) p s (term f r) n = refl
+row_beside h (Num text) p s (term f r) n = refl
+row_beside h (Str bytes) p s (term f r) n = refl
+row_beside h (Tab a) p s (term f r) n = absurd (n a refl)
+row_beside h (Lit home number cells) p s (term f r) n = refl
+row_beside h (Builtin path) p s (term f r) n = refl
+row_beside h (Other number) p s (term f r) n = refl

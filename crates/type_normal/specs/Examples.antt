@@ -1,6 +1,7 @@
 -- Types that the computed examples speak of.
-use Rattle.std.specs.Prelude.{ℕ, zero, suc, true, List, replicate, codes}
-use Rattle.type_arena.specs.Term.{Term, never, no_fields, more_fields}
+use Rattle.std.specs.Prelude.{ℕ, zero, suc, Bool, true, List, replicate, codes}
+use Rattle.type_arena.specs.Term.{Term, term, never, Rows, no_rows, more_rows, Fields, no_fields, more_fields}
+use Rattle.type_normal.specs.Free.{no_values}
 use Rattle.type_normal.specs.Operations.{union}
 use Rattle.type_normal.specs.Kinds.{nil_type, string_type, text_type, field_is, row_type}
 
@@ -31,3 +32,15 @@ rows_of_texts (suc n) = union (field_is x (text_type (replicate n 97))) (rows_of
 abbrev pub nested : ℕ → Term
 nested zero = nil_type
 nested (suc n) = field_is x (nested n)
+
+-- the fields x and y with these types
+abbrev pub x_and_y : Term → Term → Fields
+x_and_y first second = more_fields x first (more_fields y second no_fields)
+
+-- the field x alone
+abbrev pub x_alone : Term → Fields
+x_alone type = more_fields x type no_fields
+
+-- the tables of two rows, as they are given
+abbrev pub two_rows : Bool → Fields → Bool → Fields → Term
+two_rows frozen fields other_frozen others = term no_values (more_rows frozen fields (more_rows other_frozen others no_rows))

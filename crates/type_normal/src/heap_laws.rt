@@ -123,13 +123,15 @@ pub fn new_tables()
         → holds (with_table fields h) (Tab (length h)) (row_type false ts) ≡ true }
 {}
 
-/// A table of a type that is free of a name, after its field of that name is written.
-#[tactic(auto, using(crate::proofs::FreeOfFacts::row_written))]
+/// A table of a type that is free of a name, after its field of that name is written; what is no table belongs as before.
+#[tactic(auto, using(crate::proofs::FreeOfFacts::row_written, crate::proofs::FreeOfFacts::row_beside))]
 pub fn written_tables()
-    ensures { (h : Heap) (a : ℕ) (p : List ℕ) (u : Value) (t s : Term) → free_of_name p t ≡ true
+    ensures table { (h : Heap) (a : ℕ) (p : List ℕ) (u : Value) (t s : Term) → free_of_name p t ≡ true
         → a < length h → is_frozen h a ≡ false → holds h (Tab a) t ≡ true
         → holds (with_field a p u h) u s ≡ true
         → holds (with_field a p u h) (Tab a) (with_row_field p s t) ≡ true }
+    ensures free { (h : Heap) (v : Value) (p : List ℕ) (s t : Term) → ((a : ℕ) → v ≡ Tab a → ⊥)
+        → holds h v (with_row_field p s t) ≡ holds h v t }
 {}
 
 /// A frozen table of a type is in its rows, frozen; and nothing but tables is.

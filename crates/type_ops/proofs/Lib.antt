@@ -1,0 +1,12 @@
+pub mod PlaceFacts
+pub mod CompareFacts
+pub mod FlatFacts
+pub mod ListFacts
+pub mod GrowFacts
+pub mod NormalFacts
+pub mod SetFacts
+pub mod JoinFacts
+pub mod ChangeFacts
+pub mod NameFacts
+pub mod MeetFacts
+pub mod MetTypeFacts
