@@ -1,10 +1,6 @@
 -- Counting expressions and bodies, part by part of a tree.
 use Rattle.std.specs.Prelude.{ℕ, suc}
-
--- the number of the next expression, and that of the next body
-pub record Numbers : Type 0 where
-  pub exprs : ℕ
-  pub bodies : ℕ
+use Rattle.tree_numbers.specs.declared.numbers.Numbers.{Numbers}
 
 -- the first numbers
 abbrev pub first : Numbers
@@ -14,9 +10,13 @@ first = record { exprs = 0; bodies = 0 }
 abbrev pub Counting : Type 0 → Type 0
 Counting A = Numbers → A × Numbers
 
+-- what comes behind a part goes on with the numbers behind it
+abbrev pub go_on : {A B : Type 0} → (A → Counting B) → A × Numbers → B × Numbers
+go_on f done = f done.0 done.1
+
 infixl 10 ◌>>=◌
 abbrev pub ◌>>=◌ : {A B : Type 0} → Counting A → (A → Counting B) → Counting B
-r >>= f = λ n. f (r n).0 (r n).1
+r >>= f = λ n. go_on f (r n)
 
 infixl 10 ◌>>◌
 abbrev pub ◌>>◌ : {A B : Type 0} → Counting A → Counting B → Counting B

@@ -1,8 +1,7 @@
 -- Trees whose expressions and bodies have their numbers: in the order of the text, and each before what stands within it.
-use Rattle.std.specs.Prelude.{ℕ}
 use Rattle.luau_tree.specs.Tree.{Block, Stat, StatKind, Arms, MaybeBlock, Expr, Exprs, MaybeExpr, ExprKind, Choices, Item, Items, Body, Varargs, Bind, Binds, Gen, Gens, TypeSyntax, TypeSyntaxes, MaybeType, TypeKind, Prop, Props, PropKey}
 use Rattle.luau_tree.specs.Tree as tree
-use Rattle.tree_numbers.specs.Counting.{Counting, ◌>>=◌, ◌>>◌, pure, next_expr, next_body, first}
+use Rattle.tree_numbers.specs.Counting.{Counting, ◌>>=◌, pure, next_expr, next_body, first}
 
 -- each part of a tree with its numbers, whatever they were before
 abbrev mutual
