@@ -13,6 +13,5 @@ pub mod ReadTypes
 pub mod ReadExpressions
 pub mod ReadStatements
 pub mod ReadModules
-pub mod Texts
 pub mod Laws
 pub mod Samples

@@ -4,3 +4,4 @@ pub mod Seen
 pub mod SeenStatements
 pub mod Nests
 pub mod Parsed
+pub mod Texts

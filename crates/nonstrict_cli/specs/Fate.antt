@@ -4,7 +4,7 @@ use Rattle.luau_tree.specs.declared.position.Pos.{Pos}
 use Rattle.luau_tree.specs.Position.{pos_at}
 use Rattle.luau_tree.specs.Tree.{Block}
 use Rattle.luau_grammar.specs.declared.error.ParseError.{ParseError}
-use Rattle.luau_grammar.specs.Texts.{tree_of}
+use Rattle.luau_parse.specs.Texts.{tree_of}
 use Rattle.outside.specs.Contents.{File}
 use Rattle.rules_certain.specs.Calls.{Written}
 use Rattle.nonstrict_cli.specs.declared.reason.Reason.{Reason}

@@ -4,7 +4,7 @@ ghost use Rattle.std.specs.List.Sorted.{IsSorted};
 ghost use Rattle.luau_tree.specs.Position.{pos_at};
 ghost use Rattle.luau_tree.specs.Sorted.{bytes_cmp};
 ghost use Rattle.luau_tree.specs.View.{view_block};
-ghost use Rattle.luau_grammar.specs.Texts.{tree_of};
+ghost use Rattle.luau_parse.specs.Texts.{tree_of};
 ghost use Rattle.luau_lex.specs.Places as lexical;
 ghost use Rattle.nonstrict_cli.specs.Fate.{fate_by_tree, fate_of};
 ghost use Rattle.nonstrict_cli.specs.FateFound.{found_of};
