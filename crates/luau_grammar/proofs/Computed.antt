@@ -18,9 +18,34 @@ use Rattle.luau_grammar.specs.ReadExpressions as values
 use Rattle.luau_grammar.specs.ReadStatements as statements
 use Rattle.luau_grammar.specs.ReadModules as modules
 
--- opens each parser, so that what it reads is computed
+-- Each of these opens some parsers, so that what they read is computed.
+unfoldable pub open_tokens : Unit {0}
+unfolding symbols.same symbols.symbol_of places.symbol places.symbol_behind places.sees places.sees_behind places.sees_word places.start_of
+open_tokens = tt
+
+unfoldable pub open_steps : Unit {0}
+unfolding reading.refusal reading.next reading.expect reading.eat reading.name reading.open_arguments reading.raise reading.phrase reading.repeats reading.separated_from reading.separated
+open_steps = tt
+
+unfoldable pub open_types : Unit {0}
+unfolding types.bar types.basic types.form types.name_form types.named types.named_behind types.undotted types.type_arguments types.marks types.all_marks types.option types.joined types.type_inside types.generics
+open_types = tt
+
+unfoldable pub open_suffixes : Unit {0}
+unfolding reading.deeper values.expressions values.in_parens values.list_arguments values.arguments values.name_expression values.primary values.paren values.index values.call values.suffix values.prefix
+open_suffixes = tt
+
+unfoldable pub open_operations : Unit {0}
+unfolding values.right_least values.tighter values.form values.simple values.asserted values.assertion values.unary values.operand values.binary values.climb_from values.climb values.operation values.expression_inside
+open_operations = tt
+
+unfoldable pub open_statements : Unit {0}
+unfolding statements.own_prefix statements.variable statements.assign statements.compound statements.behind_prefix statements.prefix_statement statements.word_statement statements.name_statement statements.type_statement statements.alias statements.maybe_expressions statements.return_statement statements.statement statements.another_statement statements.block_inside
+open_statements = tt
+
+-- all that the samples need
 unfoldable pub every_parser : Unit {0}
-unfolding symbols.same symbols.symbol_of places.symbol places.symbol_behind places.sees places.sees_behind places.sees_word places.start_of places.Takes places.TakesName places.TakesNumber places.TakesString places.OpensArguments reading.deeper reading.refusal reading.deep_refusal reading.next reading.expect reading.eat reading.name reading.string reading.open_arguments reading.raise reading.phrase reading.repeats reading.separated_from reading.separated phrases.expression phrases.typ phrases.block types.separator types.braced types.variadic types.generic_pack types.tail types.member_name types.member types.another_member types.members_from types.members types.maybe_members types.listed types.after_list types.result types.maybe_results types.type_arguments types.default types.generic types.generics_behind types.generics types.access types.indexer types.property_name types.key types.property types.array types.table types.table_or_array types.typeof_form types.dotted types.undotted types.named_behind types.named types.generic_function types.word types.literal types.name_form types.form types.function_behind types.listed_type types.basic types.mark types.all_marks types.marks types.option types.another_option types.options_from types.options types.union_behind types.meet_behind types.joined types.bar types.type_inside values.right_least values.tighter values.expressions values.attribute values.attributes values.annotation values.bind values.var_type values.var_annotation values.varparam values.rest_parameter values.named_parameter values.parameter values.another_parameter values.parameters_from values.some_parameters values.parameters values.maybe_result values.body values.keyed values.field values.item values.fields values.table values.in_parens values.list_arguments values.table_argument values.string_argument values.arguments values.paren values.name_expression values.primary values.index values.at values.method values.call values.suffix values.prefix values.choice values.another_choice values.all_choices values.if_else values.part_end values.part values.parts values.interpolation values.whole values.function values.word values.number values.literal values.constructor values.form values.simple values.asserted values.assertion values.unary values.operand values.binary values.climb_from values.climb values.operation values.expression_inside statements.own_prefix statements.variable statements.assign statements.compound statements.behind_prefix statements.prefix_statement statements.do_block statements.while_statement statements.repeat_statement statements.arm statements.another_arm statements.all_arms statements.maybe_else statements.if_statement statements.maybe_step statements.range statements.numeric_for statements.generic_for statements.for_statement statements.path_name statements.path statements.method_name statements.function_statement statements.local_function statements.maybe_values statements.local_names statements.local_statement statements.attributed statements.alias statements.type_function statements.type_statement statements.maybe_expressions statements.return_statement statements.word_statement statements.do_statement statements.name_statement statements.statement statements.another_statement statements.block_inside modules.too_deep modules.readers modules.module_with
+unfolding open_tokens open_steps open_types open_suffixes open_operations open_statements phrases.expression phrases.typ phrases.block modules.too_deep modules.readers modules.module_with
 every_parser = tt
 
 -- tokens at levels up to the program's, and arguments anywhere
