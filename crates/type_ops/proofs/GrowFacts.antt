@@ -14,7 +14,7 @@ use Rattle.type_arena.specs.declared.node.Row.{Row}
 use Rattle.type_arena.specs.declared.node.TypeRef.{TypeRef}
 use Rattle.type_arena.proofs.MeaningLemmas.{fields_by-same, rows_by-same, Reaches-there, has-kept}
 use Rattle.type_normal.specs.Adds.{Adds}
-use Rattle.type_normal.proofs.AddsFacts.{there_kept, adds_none}
+use Rattle.type_normal.proofs.AddsFacts.{FromRefs, FromLiterals, there_kept, adds_none}
 use Rattle.type_ops.specs.Growing.{given_refs, IsClean}
 
 nothing_in : {X : Type 0} (x : X) → Contains [] x → ⊥
@@ -241,3 +241,14 @@ pub adds_failed : (a b c : Arena) (refs : List TypeRef) → All (λ at. IsTrue (
 adds_failed a b c refs there adds below home nodes =
     adds_more a b c (given_refs refs) (given_refs refs) [] [] adds (adds_none b c (given_refs refs) below home nodes)
     (clean_may a b (given_refs refs) refs (λ k d l. clean_given a b refs [] (get_or refs k d) adds (there k d l) (Contains-get_or refs k d l)) adds.home)
+
+-- the references and the literals of a node whose parts come from nodes of given references
+pub refs_clean : (a : Arena) (given refs : List TypeRef) → ((child : TypeRef) → Contains refs child → FromRefs (store_of a) given child) → All (IsClean a a (given_refs given)) refs
+refs_clean a given refs from k d l home way =
+    let f = from (get_or refs k d) (Contains-get_or refs k d l) in
+    reached f.0 home f.2 (home_join (store_of a) f.0 (get_or refs k d) home (through f.1 f.3 f.4 itself) way)
+
+pub literals_may : (a : Arena) (given : List TypeRef) (homes : List ℕ) → ((home : ℕ) → Contains homes home → FromLiterals (store_of a) given home) → All (MayUse (store_of a) (home_of a) (given_refs given)) homes
+literals_may a given homes from k d l =
+    let f = from (get_or homes k d) (Contains-get_or homes k d l) in
+    reached f.0 (get_or homes k d) f.2 (by_literal f.0 f.1 (get_or homes k d) itself f.3 f.4)

@@ -10,3 +10,4 @@ pub mod ChangeFacts
 pub mod NameFacts
 pub mod MeetFacts
 pub mod MetTypeFacts
+pub mod KeepFacts

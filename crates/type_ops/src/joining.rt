@@ -7,6 +7,7 @@ ghost use Rattle.type_arena.specs.Store.{has as has_node, row_types};
 ghost use Rattle.type_normal.specs.Adds.{Adds};
 ghost use Rattle.type_normal.specs.Holds.{holds};
 ghost use Rattle.type_normal.specs.Operations.{union as union_term};
+ghost use Rattle.type_ops.specs.Growing.{given_refs, IsClean};
 ghost use Rattle.type_ops.specs.Joined.{either_node, union_node};
 
 use crate::sets::either;
@@ -28,9 +29,10 @@ pub fn union(
     ensures term { IfOk result (λ at. term_of (store_of arena.new) at ≡ union_term (term_of (store_of arena.old) a) (term_of (store_of arena.old) b)) }
     ensures values { IfOk result (λ at. (h : Heap) (v : Value) → holds h v (term_of (store_of arena.new) at) ≡ holds h v (term_of (store_of arena.old) a) || holds h v (term_of (store_of arena.old) b)) }
 
-    // The arena only gets nodes.
+    // The arena only gets nodes, and each home that is reached from the answer may be used.
     ensures there { IfOk result (λ at. IsTrue (has_node (store_of arena.new) at)) }
     ensures adds { IfOk result (λ at. Adds arena.old arena.new (record { refs = a ∷ b ∷ []; literals = [] }) (at ∷ [])) }
+    ensures clean { IfOk result (λ at. IsClean arena.old arena.new (given_refs (a ∷ b ∷ [])) at) }
     ensures err { OnErr result (Adds arena.old arena.new (record { refs = a ∷ b ∷ []; literals = [] }) []) }
 {
     let node = joined(alloc, arena, arena.node(a), arena.node(b))?;

@@ -4,6 +4,7 @@
 mod comparing;
 mod copying;
 mod joining;
+pub mod laws;
 mod meeting;
 mod names;
 mod normalizing;

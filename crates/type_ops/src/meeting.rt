@@ -37,9 +37,10 @@ pub fn meet(
     ensures term { IfOk result (λ at. term_of (store_of arena.new) at ≡ meet_term (term_of (store_of arena.old) a) (term_of (store_of arena.old) b)) }
     ensures values { IfOk result (λ at. (h : Heap) (v : Value) → holds h v (term_of (store_of arena.new) at) ≡ holds h v (term_of (store_of arena.old) a) && holds h v (term_of (store_of arena.old) b)) }
 
-    // The arena only gets nodes.
+    // The arena only gets nodes, and each home that is reached from the answer may be used.
     ensures there { IfOk result (λ at. IsTrue (has_node (store_of arena.new) at)) }
     ensures adds { IfOk result (λ at. Adds arena.old arena.new (record { refs = a ∷ b ∷ []; literals = [] }) (at ∷ [])) }
+    ensures clean { IfOk result (λ at. IsClean arena.old arena.new (given_refs (a ∷ b ∷ [])) at) }
     ensures err { OnErr result (Adds arena.old arena.new (record { refs = a ∷ b ∷ []; literals = [] }) []) }
 {
     let mut known = Meets::new(alloc);

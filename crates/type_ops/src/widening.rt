@@ -31,9 +31,10 @@ pub fn widen(alloc: Global, arena: &mut Arena<'_>, a: TypeRef) -> Result<TypeRef
     ensures values { IfOk result (λ at. (h : Heap) (v : Value) → holds h v (term_of (store_of arena.old) a) ≡ true → holds h v (term_of (store_of arena.new) at) ≡ true) }
     ensures later { IfOk result (λ at. (h g : Heap) (v : Value) → Later h g → holds h v (term_of (store_of arena.new) at) ≡ true → holds g v (term_of (store_of arena.new) at) ≡ true) }
 
-    // The arena only gets nodes.
+    // The arena only gets nodes, and each home that is reached from the answer may be used.
     ensures there { IfOk result (λ at. IsTrue (has_node (store_of arena.new) at)) }
     ensures adds { IfOk result (λ at. Adds arena.old arena.new (record { refs = a ∷ []; literals = [] }) (at ∷ [])) }
+    ensures clean { IfOk result (λ at. IsClean arena.old arena.new (given_refs (a ∷ [])) at) }
     ensures err { OnErr result (Adds arena.old arena.new (record { refs = a ∷ []; literals = [] }) []) }
 {
     let mut known = Changes::new(alloc);
@@ -56,9 +57,10 @@ pub fn widen_at(
     ensures values { IfOk result (λ at. (h : Heap) (v : Value) → holds h v (term_of (store_of arena.old) a) ≡ true → holds h v (term_of (store_of arena.new) at) ≡ true) }
     ensures written { IfOk result (λ at. (h : Heap) (t : ℕ) (u v : Value) → is_frozen h t ≡ false → holds h v (term_of (store_of arena.new) at) ≡ true → holds (with_field t name.now u h) v (term_of (store_of arena.new) at) ≡ true) }
 
-    // The arena only gets nodes.
+    // The arena only gets nodes, and each home that is reached from the answer may be used.
     ensures there { IfOk result (λ at. IsTrue (has_node (store_of arena.new) at)) }
     ensures adds { IfOk result (λ at. Adds arena.old arena.new (record { refs = a ∷ []; literals = [] }) (at ∷ [])) }
+    ensures clean { IfOk result (λ at. IsClean arena.old arena.new (given_refs (a ∷ [])) at) }
     ensures err { OnErr result (Adds arena.old arena.new (record { refs = a ∷ []; literals = [] }) []) }
 {
     let written = Written::Named(name.clone()?);
