@@ -1,3 +1,5 @@
 pub mod Earliest
 pub mod InOrder
+pub mod Lookups
 pub mod Matches
+pub mod Splits
