@@ -1,10 +1,10 @@
 -- What `parse` answers, by the parser that it computes.
-use Rattle.std.specs.Prelude.{◌≡◌, ◌≢◌, ℕ, List, Result, Ok, Err}
+use Rattle.std.specs.Prelude.{◌≡◌, ◌≢◌, ℕ, List, Option, Some, None, Result, Ok, Err}
 use Rattle.luau_tree.specs.Tree.{Block}
 use Rattle.luau_tree.specs.View.{view_module}
 use Rattle.luau_tree.specs.declared.tree.Module.{Module}
 use Rattle.luau_lex.specs.Tokens.{Tok}
-use Rattle.luau_lex.specs.Grammar.{HasTokens}
+use Rattle.luau_lex.specs.Lexed.{Lexed}
 use Rattle.luau_grammar.specs.declared.error.ParseError.{ParseError}
 use Rattle.luau_grammar.specs.declared.error.ParseError.TheVariants.{Lex, NoMemory}
 use Rattle.luau_grammar.specs.Places.{Place}
@@ -23,5 +23,5 @@ read_module text ts = module_with (strictly text) max_depth (before ts)
 
 -- A text's fault: the lexer's, where it has no tokens, and else that of its tokens.
 abbrev pub IsFault : List ℕ → ParseError → Type 0
-IsFault text (Lex fault) = HasTokens text (Err fault)
-IsFault text e = (ts : List Tok) × HasTokens text (Ok ts) × (read_module text ts ≡ Err e)
+IsFault text (Lex fault) = (ts : List Tok) × Lexed text ts (Some fault)
+IsFault text e = (ts : List Tok) × Lexed text ts None × (read_module text ts ≡ Err e)
