@@ -1,11 +1,11 @@
 //! Modules: the functions that read phrases within one another, and the whole text.
-ghost use Rattle.std.specs.Prelude.{◌≡◌, ◌≢◌, ◌≤◌, List, length, map, Ok, None, IfOk, IfErr};
+ghost use Rattle.std.specs.Prelude.{◌≡◌, ◌≢◌, ◌≤◌, ◌⊎◌, List, length, map, Ok, None, IfOk, IfErr};
 ghost use Rattle.luau_lex.specs.Tokens.{Tok, seen_token};
 ghost use Rattle.luau_lex.specs.Lexed.{Lexed};
 ghost use Rattle.luau_grammar.specs.declared.error.ParseError.TheVariants.{NoMemory};
 ghost use Rattle.luau_tree.specs.View.{view_block, view_expr, view_type};
 ghost use Rattle.luau_parse.specs.Outcomes.{Reads, place_of, maybe_listed};
-ghost use Rattle.luau_parse.specs.Parsed.{IsRead, IsFault, read_module};
+ghost use Rattle.luau_parse.specs.Parsed.{IsRead, IsLexFault, IsTokenFault, read_module};
 ghost use Rattle.luau_grammar.specs.Reading.{strictly};
 ghost use Rattle.luau_grammar.specs.ReadModules.{readers, too_deep};
 
@@ -24,7 +24,7 @@ const MAX_DEPTH: usize = 202;
 
 /// A block in which no phrase may nest.
 #[tactic(auto, unfolding(luau_grammar::specs::ReadModules::too_deep))]
-fn shallow_block(
+pub fn shallow_block(
     alloc: Global,
     text: &[u8],
     tokens: &Tokens<'_, '_>,
@@ -144,7 +144,7 @@ pub fn parse(alloc: Global, text: &[u8]) -> Result<Module, ParseError>
     // The text has tokens, and this is their tree.
     ensures module { IfOk result (λ m. (ts : List Tok) × Lexed text.now ts None × IsRead (read_module text.now ts) (Ok m)) }
     // Where the text has no tokens, this is the lexer's fault; else it is the fault of the tokens.
-    ensures fault { IfErr result (λ e. e ≢ NoMemory → IsFault text.now e) }
+    ensures fault { IfErr result (λ e. e ≢ NoMemory → IsLexFault text.now e ⊎ IsTokenFault text.now e) }
 {
     match lex(alloc, text) {
         Ok(tokens) => module_of(alloc, text, tokens.as_slice()),

@@ -5,7 +5,7 @@ use Rattle.luau_tree.specs.View.{view_expr}
 use Rattle.luau_grammar.specs.Reading.{strictly}
 use Rattle.luau_grammar.specs.ReadModules.{readers}
 use Rattle.luau_parse.specs.Outcomes.{place_of}
-use Rattle.luau_parse.proofs.Operations.{operation_reads, operation_fails}
+use Rattle.luau_parse.proofs.Turns.{operation_reads, operation_fails}
 use Rattle.luau_parse.proofs.Repeats.{stops, refuses, goes_on, fails}
 use Rattle.luau_parse.proofs.grammar.Grammar.+operators.Goals as goal
 
