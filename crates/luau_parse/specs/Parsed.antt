@@ -1,10 +1,11 @@
 -- What `parse` answers, by the parser that it computes.
-use Rattle.std.specs.Prelude.{◌≡◌, ◌≢◌, ℕ, List, Result, Ok, Err}
+use Rattle.std.specs.Prelude.{◌≡◌, ◌≢◌, ℕ, List, Option, Some, None, Result, Ok, Err}
 use Rattle.luau_tree.specs.Tree.{Block}
 use Rattle.luau_tree.specs.View.{view_module}
 use Rattle.luau_tree.specs.declared.tree.Module.{Module}
 use Rattle.luau_lex.specs.Tokens.{Tok}
-use Rattle.luau_lex.specs.Grammar.{HasTokens}
+use Rattle.luau_lex.specs.declared.token.LexError.{LexError}
+use Rattle.luau_lex.specs.Lexed.{Lexed}
 use Rattle.luau_grammar.specs.declared.error.ParseError.{ParseError}
 use Rattle.luau_grammar.specs.declared.error.ParseError.TheVariants.{Lex, NoMemory}
 use Rattle.luau_grammar.specs.Places.{Place}
@@ -21,7 +22,10 @@ IsRead outcome (Err e) = e ≢ NoMemory → outcome ≡ Err e
 abbrev pub read_module : List ℕ → List Tok → Outcome Block
 read_module text ts = module_with (strictly text) max_depth (before ts)
 
--- A text's fault: the lexer's, where it has no tokens, and else that of its tokens.
-abbrev pub IsFault : List ℕ → ParseError → Type 0
-IsFault text (Lex fault) = HasTokens text (Err fault)
-IsFault text e = (ts : List Tok) × HasTokens text (Ok ts) × (read_module text ts ≡ Err e)
+-- The text has no tokens, and this is the lexer's fault of it.
+abbrev pub IsLexFault : List ℕ → ParseError → Type 0
+IsLexFault text e = (fault : LexError) × (ts : List Tok) × Lexed text ts (Some fault) × (e ≡ Lex fault)
+
+-- The text has tokens, and this is the fault of them.
+abbrev pub IsTokenFault : List ℕ → ParseError → Type 0
+IsTokenFault text e = (ts : List Tok) × Lexed text ts None × (read_module text ts ≡ Err e)

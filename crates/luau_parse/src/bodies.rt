@@ -1,5 +1,5 @@
 //! Function bodies and what stands before them.
-ghost use Rattle.std.specs.Prelude.{◌≡◌, map, IfOk};
+ghost use Rattle.std.specs.Prelude.{◌≡◌, Some, map, IfOk};
 ghost use Rattle.luau_grammar.specs.ReadExpressions as values;
 ghost use Rattle.luau_tree.specs.View as view;
 ghost use Rattle.luau_tree.specs.View.{view_bind, view_binds, view_body, view_maybe_type, view_type};
@@ -42,6 +42,16 @@ fn goes_on(tokens: &Tokens<'_, '_>, given: &Parameters) -> bool
     given.rest.is_none() && tokens.sees(Symbol::Comma)
 }
 
+/// The parameters of a method's body: `self`, at the method's name, and then its own.
+fn self_first(alloc: Global, span: Span, own: Items<Bind>) -> Result<Items<Bind>, AllocError>
+    ensures { IfOk result (λ all. view_binds all ≡ view.binds (values.with_self (Some span) (map view_bind own))) }
+{
+    let name = copy(alloc, b"self")?;
+    let mut all = one(alloc, bind_of(name, span, None))?;
+    all.append(own)?;
+    Ok(all)
+}
+
 /// The parameters of a body, with `self` before a method's own.
 fn with_self(
     alloc: Global,
@@ -50,13 +60,10 @@ fn with_self(
 ) -> Result<Items<Bind>, AllocError>
     ensures { IfOk result (λ all. view_binds all ≡ view.binds (values.with_self method (map view_bind own))) }
 {
-    let Some(span) = method else {
-        return Ok(own);
-    };
-    let name = copy(alloc, b"self")?;
-    let mut all = one(alloc, bind_of(name, span, None))?;
-    all.append(own)?;
-    Ok(all)
+    match method {
+        None => Ok(own),
+        Some(span) => self_first(alloc, span, own),
+    }
 }
 
 impl<

@@ -1,13 +1,13 @@
 //! Modules: the functions that read phrases within one another, and the whole text.
-ghost use Rattle.std.specs.Prelude.{◌≡◌, ◌≢◌, ◌≤◌, List, length, map, Ok, IfOk, IfErr};
+ghost use Rattle.std.specs.Prelude.{◌≡◌, ◌≢◌, ◌≤◌, ◌⊎◌, List, length, map, Ok, None, IfOk, IfErr};
 ghost use Rattle.luau_lex.specs.Tokens.{Tok, seen_token};
-ghost use Rattle.luau_lex.specs.Grammar.{HasTokens};
+ghost use Rattle.luau_lex.specs.Lexed.{Lexed};
 ghost use Rattle.luau_grammar.specs.declared.error.ParseError.TheVariants.{NoMemory};
 ghost use Rattle.luau_tree.specs.View.{view_block, view_expr, view_type};
 ghost use Rattle.luau_parse.specs.Outcomes.{Reads, place_of, maybe_listed};
-ghost use Rattle.luau_parse.specs.Parsed.{IsRead, IsFault, read_module};
+ghost use Rattle.luau_parse.specs.Parsed.{IsRead, IsLexFault, IsTokenFault, read_module};
 ghost use Rattle.luau_grammar.specs.Reading.{strictly};
-ghost use Rattle.luau_grammar.specs.ReadModules.{readers};
+ghost use Rattle.luau_grammar.specs.ReadModules.{readers, too_deep};
 
 use crate::grammar::Grammar;
 use crate::listed::Listed;
@@ -21,6 +21,23 @@ use std::alloc::Global;
 
 /// Deep enough for each text without a token at a level above 200.
 const MAX_DEPTH: usize = 202;
+
+/// A block in which no phrase may nest.
+#[tactic(auto, unfolding(luau_grammar::specs::ReadModules::too_deep))]
+pub fn shallow_block(
+    alloc: Global,
+    text: &[u8],
+    tokens: &Tokens<'_, '_>,
+) -> Result<Block, ParseError>
+    requires { length text.now ≤ MAX_TEXT }
+    ensures { Reads view_block ((too_deep (strictly text.now)).block (place_of tokens.now)) result tokens.now }
+{
+    if begins_block(tokens.symbol()) {
+        Err(tokens.deep_refusal(text))
+    } else {
+        Ok(block_of(Items::new(alloc)))
+    }
+}
 
 #[cycle(phrases)]
 fn expression_at(
@@ -82,11 +99,7 @@ fn block_at(
     ensures { Reads view_block ((readers (strictly text.now) depth).block (place_of tokens.old)) result tokens.new }
 {
     if depth == 0 {
-        return if begins_block(tokens.symbol()) {
-            Err(tokens.deep_refusal(text))
-        } else {
-            Ok(block_of(Items::new(alloc)))
-        };
+        return shallow_block(alloc, text, tokens);
     }
     let grammar = Grammar {
         alloc,
@@ -129,9 +142,9 @@ fn module_of(alloc: Global, text: &[u8], tokens: &[Token<'_>]) -> Result<Module,
 pub fn parse(alloc: Global, text: &[u8]) -> Result<Module, ParseError>
     requires { length text.now ≤ MAX_TEXT }
     // The text has tokens, and this is their tree.
-    ensures module { IfOk result (λ m. (ts : List Tok) × HasTokens text.now (Ok ts) × IsRead (read_module text.now ts) (Ok m)) }
+    ensures module { IfOk result (λ m. (ts : List Tok) × Lexed text.now ts None × IsRead (read_module text.now ts) (Ok m)) }
     // Where the text has no tokens, this is the lexer's fault; else it is the fault of the tokens.
-    ensures fault { IfErr result (λ e. e ≢ NoMemory → IsFault text.now e) }
+    ensures fault { IfErr result (λ e. e ≢ NoMemory → IsLexFault text.now e ⊎ IsTokenFault text.now e) }
 {
     match lex(alloc, text) {
         Ok(tokens) => module_of(alloc, text, tokens.as_slice()),
