@@ -6,3 +6,4 @@ pub mod SelfFirst
 pub mod Steps
 pub mod Turns
 pub mod WholeText
+pub mod Answered

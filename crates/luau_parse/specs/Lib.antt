@@ -3,5 +3,5 @@ pub mod SeenTypes
 pub mod Seen
 pub mod SeenStatements
 pub mod Nests
-pub mod Parsed
 pub mod Texts
+pub mod Parsed

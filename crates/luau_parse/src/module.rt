@@ -1,17 +1,18 @@
 //! Modules: the functions that read phrases within one another, and the whole text.
-ghost use Rattle.std.specs.Prelude.{◌≡◌, ◌≢◌, ◌≤◌, ◌⊎◌, List, length, map, Ok, None, IfOk, IfErr};
-ghost use Rattle.luau_lex.specs.Tokens.{Tok, seen_token};
-ghost use Rattle.luau_lex.specs.Lexed.{Lexed};
+ghost use Rattle.std.specs.Prelude.{◌≡◌, ◌≢◌, ◌≤◌, ◌⊎◌, length, map, Ok, Err, IfOk, IfErr};
+ghost use Rattle.luau_lex.specs.Tokens.{seen_token};
 ghost use Rattle.luau_grammar.specs.declared.error.ParseError.TheVariants.{NoMemory};
-ghost use Rattle.luau_tree.specs.View.{view_block, view_expr, view_type};
+ghost use Rattle.luau_tree.specs.View.{view_block, view_expr, view_module, view_type};
 ghost use Rattle.luau_parse.specs.Outcomes.{Reads, place_of, maybe_listed};
-ghost use Rattle.luau_parse.specs.Parsed.{IsRead, IsLexFault, IsTokenFault, read_module};
+ghost use Rattle.luau_parse.specs.Parsed.{HasNoTree, HasTree, IsLexFault, IsRead};
+ghost use Rattle.luau_parse.specs.Texts.{read_module, tree_of};
 ghost use Rattle.luau_grammar.specs.Reading.{strictly};
 ghost use Rattle.luau_grammar.specs.ReadModules.{readers, too_deep};
 
 use crate::grammar::Grammar;
 use crate::listed::Listed;
 use crate::tokens::Tokens;
+use luau_grammar::laws::the_parser_reads_the_grammar;
 use luau_grammar::{ParseError, Symbol, begins_block};
 use luau_lex::{LexError, Token, lex};
 use luau_tree::parts::block_of;
@@ -135,17 +136,22 @@ fn module_of(alloc: Global, text: &[u8], tokens: &[Token<'_>]) -> Result<Module,
     }
 }
 
-/// The tree of a text of at most 1,048,576 bytes.
+/// The tree of a text of at most 1,048,576 bytes, whose expressions and bodies have no numbers yet. The grammar stands in
+/// `docs/LANGUAGE.md`.
 ///
 /// Fails with the first fault of the text, which has no tokens or whose tokens are no module then, or where memory
 /// runs out.
 pub fn parse(alloc: Global, text: &[u8]) -> Result<Module, ParseError>
     requires { length text.now ≤ MAX_TEXT }
     // The text has tokens, and this is their tree.
-    ensures module { IfOk result (λ m. (ts : List Tok) × Lexed text.now ts None × IsRead (read_module text.now ts) (Ok m)) }
-    // Where the text has no tokens, this is the lexer's fault; else it is the fault of the tokens.
-    ensures fault { IfErr result (λ e. e ≢ NoMemory → IsLexFault text.now e ⊎ IsTokenFault text.now e) }
+    ensures tree { IfOk result (λ m. HasTree text.now (view_module m)) }
+    // The text has no tokens, and this is the fault of it; or its tokens have no tree.
+    ensures fault { IfErr result (λ e. e ≢ NoMemory → IsLexFault text.now e ⊎ HasNoTree text.now) }
+    // The same answers as a function, which says of tokens without a tree which fault is told.
+    ensures computed { IfOk result (λ m. tree_of text.now ≡ Ok (view_module m)) }
+    ensures computed_fault { IfErr result (λ e. e ≢ NoMemory → tree_of text.now ≡ Err e) }
 {
+    the_parser_reads_the_grammar();
     match lex(alloc, text) {
         Ok(tokens) => module_of(alloc, text, tokens.as_slice()),
         Err(LexError::NoMemory) => Err(ParseError::NoMemory),
