@@ -162,9 +162,19 @@ fn a_text_gives_its_lines(rt: HostRuntime) -> Result<(), Fail> {
             "1:12",
             "refused: unexpected end",
         ),
-        ("if x then", Status::Refused, "1:10", "refused: unexpected end"),
+        (
+            "if x then",
+            Status::Refused,
+            "1:10",
+            "refused: unexpected end",
+        ),
         ("x y", Status::Refused, "1:3", "refused: unexpected token"),
-        ("x = = 1", Status::Refused, "1:5", "refused: unexpected token"),
+        (
+            "x = = 1",
+            Status::Refused,
+            "1:5",
+            "refused: unexpected token",
+        ),
         (
             "return 1 2",
             Status::Refused,
@@ -254,7 +264,10 @@ fn phrases_stand_at_two_hundred_levels(rt: HostRuntime) -> Result<(), Fail> {
     ] {
         let text = in_parentheses(alloc, count)?;
         let root = root(alloc, &[("a.luau", text.as_slice())])?;
-        assert!(rt; gives(alloc, "d;", root, &[], Status::Refused, line)?, "{count}");
+        assert!(rt;
+            gives(alloc, "d;", root, &[], Status::Refused, line)?,
+            "{count}"
+        );
     }
     Ok(())
 }

@@ -55,12 +55,16 @@ written_at statement call callee library argument literal =
       argument = argument;
     }
 
--- the call of `math.abs` with one literal that an expression is, if it is one
-abbrev call_by : (statement call : Span) → ExprKind → Option Written
-call_by statement call (tree.Call callee args) =
+-- the call of `math.abs` with one literal that a call with this callee and these arguments is, if it is one
+abbrev pub called : (statement call : Span) → Expr → Exprs → Option Written
+called statement call callee args =
     option_and_then (λ library. option_and_then (λ e.
     option_map (written_at statement call (expr_span callee) library (expr_span e)) (literal_in e))
     (sole args)) (library_in callee)
+
+-- the call of `math.abs` with one literal that an expression is, if it is one
+abbrev call_by : (statement call : Span) → ExprKind → Option Written
+call_by statement call (tree.Call callee args) = called statement call callee args
 call_by statement call _ = None
 
 abbrev pub call_at : (statement : Span) → Expr → Option Written

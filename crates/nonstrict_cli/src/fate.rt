@@ -17,7 +17,7 @@ use crate::reason::Reason;
 use luau_grammar::ParseError;
 use luau_lex::LexError;
 use luau_parse::parse;
-use luau_tree::{Block, Bytes, Cursor, List, MAX_TEXT, Pos, pos_of};
+use luau_tree::{Block, Bytes, Cursor, List, MAX_TEXT, Pos};
 use std::alloc::{AllocError, Global};
 
 /// What becomes of a file.
@@ -139,7 +139,7 @@ fn fate_of_text(alloc: Global, text: &[u8]) -> Result<Fate, AllocError>
         Ok(module) => fate_by_tree(alloc, text, &module.block),
         Err(ParseError::NoMemory) => Err(AllocError),
         Err(fault) => {
-            let place = pos_of(text, offset_of(&fault));
+            let place = place_in(text, &mut Cursor::new(text), offset_of(&fault));
             Ok(Fate::Refused(place, reason_of(&fault)))
         }
     }

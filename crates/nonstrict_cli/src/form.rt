@@ -1,10 +1,10 @@
 //! Reads the form that is built so far: modules whose statements are calls of `math.abs`, each with one literal.
 ghost use Rattle.std.specs.Prelude.{◌≡◌, ◌++◌, IfOk, OnOk, not, is_some, option_map};
 ghost use Rattle.luau_tree.specs.declared.position.Span.{Span};
-ghost use Rattle.luau_tree.specs.View.{view_block, view_expr, view_stat};
+ghost use Rattle.luau_tree.specs.View.{view_block, view_expr, view_exprs, view_stat};
 ghost use Rattle.rules_certain.specs.Literal.{is_number};
 ghost use Rattle.nonstrict_cli.specs.Form as form;
-ghost use Rattle.nonstrict_cli.specs.Form.{call_at, call_in, faults_in, offset_of};
+ghost use Rattle.nonstrict_cli.specs.Form.{call_at, call_in, called, faults_in, offset_of};
 ghost use Rattle.nonstrict_cli.specs.Seen.{reported_at};
 
 use luau_tree::{Block, Expr, ExprKind, Stat, StatKind};
@@ -46,9 +46,37 @@ fn is_abs(e: &Expr) -> bool
     ensures { result ≡ is_some (form.library_in (view_expr e.now)) }
 {
     match &e.kind {
-        ExprKind::Index { base, name } => is_name(b"math", base.get()) && name.as_slice() == b"abs".as_slice(),
+        ExprKind::Index { base, name } => is_name(b"math", base.get())
+            && name.as_slice() == b"abs".as_slice(),
         _ => false,
     }
+}
+
+/// The one argument of a call.
+fn sole(args: &[Expr]) -> Option<&Expr>
+    ensures { option_map (λ e. view_expr e.now) result ≡ form.sole (view_exprs args.now) }
+{
+    match args {
+        [] => None,
+        [only] => Some(only),
+        [_, _, ..] => None,
+    }
+}
+
+/// The argument of a call with this callee and these arguments, if it is one of `math.abs` with one literal.
+#[tactic(auto, unfolding(luau_tree::specs::View::view_expr))]
+fn argument_among(callee: &Expr, args: &[Expr]) -> Option<Argument>
+    ensures { (statement call : Span) → option_map reported_at result ≡ option_map offset_of (called statement call (view_expr callee.now) (view_exprs args.now)) }
+{
+    if !is_abs(callee) {
+        return None;
+    }
+    let only = sole(args)?;
+    let fails = literal_of(only)?;
+    Some(Argument {
+        offset: only.span.start,
+        fails,
+    })
 }
 
 /// The argument of an expression that is a call of `math.abs` with one literal.
@@ -56,17 +84,10 @@ fn is_abs(e: &Expr) -> bool
 fn argument_of(e: &Expr) -> Option<Argument>
     ensures { (statement : Span) → option_map reported_at result ≡ option_map offset_of (call_at statement (view_expr e.now)) }
 {
-    let ExprKind::Call { callee, args } = &e.kind else {
-        return None;
-    };
-    let [only] = args.as_slice() else {
-        return None;
-    };
-    if !is_abs(callee.get()) {
-        return None;
+    match &e.kind {
+        ExprKind::Call { callee, args } => argument_among(callee.get(), args.as_slice()),
+        _ => None,
     }
-    let offset = only.span.start;
-    literal_of(only).map(|fails| Argument { offset, fails })
 }
 
 /// The argument of a statement that is a call of `math.abs` with one literal.

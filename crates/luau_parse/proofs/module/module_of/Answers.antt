@@ -11,5 +11,5 @@ returns-then-sees c =
     let set = strictly c.args.text.now in (
       place_of c.block.new.tokens,
       ap (λ p. module_with set max_depth p) (sym c.new-place.ensures)
-      ∙ ends set max_depth (place_of c.new-place.result) (place_of c.block.new.tokens) (view_block c.in_ok-block.block) c.in_ok-block.ensures (sym c.sees.ensures ∙ c.if-sees.true),
+          ∙ ends set max_depth (place_of c.new-place.result) (place_of c.block.new.tokens) (view_block c.in_ok-block.block) c.in_ok-block.ensures (sym c.sees.ensures ∙ c.if-sees.true),
     )
