@@ -1,0 +1,6 @@
+pub mod Pieces
+pub mod Front
+pub mod WrittenTypes
+pub mod Values
+pub mod Statements
+pub mod Everywhere

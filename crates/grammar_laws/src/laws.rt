@@ -1,0 +1,15 @@
+//! Where the nodes of a tree stand, for every list of tokens in order.
+ghost use Rattle.std.specs.Prelude.{ℕ, List};
+ghost use Rattle.luau_tree.specs.Tree.{Block};
+ghost use Rattle.luau_lex.specs.Tokens.{Tok};
+ghost use Rattle.luau_grammar.specs.Places.{Rules};
+ghost use Rattle.luau_grammar.specs.Modules.{IsBare};
+ghost use Rattle.grammar_laws.specs.Outlines.{of_block};
+ghost use Rattle.grammar_laws.specs.Laws.{AreInOrder, AreNested, end_of};
+
+/// Each node of a tree stands from the first byte of a token to the last byte of one, nodes that
+/// stand in one node lie in its span, and each ends before the next begins.
+pub fn nodes_stand_in_one_another()
+    ensures nested { (rules : Rules) (ts : List Tok) (b : Block) → AreInOrder 0 ts → IsBare rules ts b →
+        AreNested ts 0 (end_of 0 ts) (of_block b) }
+{}
