@@ -4,3 +4,5 @@ pub mod WrittenTypes
 pub mod Values
 pub mod Statements
 pub mod Everywhere
+pub mod Distinct
+pub mod DeclaredNames

@@ -1,6 +1,9 @@
 -- Words of the laws: tokens in order, and spans from token to token within one another.
-use Rattle.std.specs.Prelude.{◌≡◌, ℕ, ◌≤◌, ◌<◌, List, [], ◌∷◌, Any}
+use Rattle.std.specs.Prelude.{◌≡◌, ◌≢◌, ℕ, ◌≤◌, ◌<◌, List, [], ◌∷◌, Any, AllPairs}
 use Rattle.luau_tree.specs.declared.position.Span.{Span}
+use Rattle.luau_tree.specs.Tree.{Block, Bind}
+use Rattle.luau_tree.specs.Tree as tree
+use Rattle.luau_tree.specs.Nodes.{binds_in}
 use Rattle.luau_lex.specs.Tokens.{Tok}
 use Rattle.grammar_laws.specs.Outlines.{Outline, no_spans, more_spans}
 
@@ -26,3 +29,11 @@ AreNested ts from to (more_spans span inside behind) =
 abbrev pub end_of : ℕ → List Tok → ℕ
 end_of at [] = at
 end_of at (t ∷ ts) = end_of t.span.end ts
+
+-- where a declared name begins
+abbrev pub bind_start : Bind → ℕ
+bind_start (tree.the_bind name span typ) = span.start
+
+-- the names that a tree declares begin at different offsets
+abbrev pub HasApartBinds : Block → Type 0
+HasApartBinds b = AllPairs (λ x y. bind_start x ≢ bind_start y) (binds_in b)

@@ -5,11 +5,18 @@ ghost use Rattle.luau_lex.specs.Tokens.{Tok};
 ghost use Rattle.luau_grammar.specs.Places.{Rules};
 ghost use Rattle.luau_grammar.specs.Modules.{IsBare};
 ghost use Rattle.grammar_laws.specs.Outlines.{of_block};
-ghost use Rattle.grammar_laws.specs.Laws.{AreInOrder, AreNested, end_of};
+ghost use Rattle.grammar_laws.specs.Laws.{AreInOrder, AreNested, HasApartBinds, end_of};
 
 /// Each node of a tree stands from the first byte of a token to the last byte of one, nodes that
 /// stand in one node lie in its span, and each ends before the next begins.
 pub fn nodes_stand_in_one_another()
     ensures nested { (rules : Rules) (ts : List Tok) (b : Block) → AreInOrder 0 ts → IsBare rules ts b →
         AreNested ts 0 (end_of 0 ts) (of_block b) }
+{}
+
+/// The names that a tree declares begin at different offsets. A method's `self` is one of them, and
+/// begins where the method's name does.
+pub fn declared_names_begin_apart()
+    ensures apart { (rules : Rules) (ts : List Tok) (b : Block) → AreInOrder 0 ts → IsBare rules ts b →
+        HasApartBinds b }
 {}
