@@ -6,3 +6,4 @@ pub mod Statements
 pub mod Everywhere
 pub mod Distinct
 pub mod DeclaredNames
+pub mod InOrder
