@@ -1,5 +1,5 @@
 -- Names at different offsets: lists of them, and what the outline of a tree says of those among its nodes.
-use Rattle.std.proofs.Common.{◌≡◌, ◌≢◌, ℕ, zero, suc, ◌≤◌, ◌<◌, Bool, true, false, List, [], ◌∷◌, ◌++◌, length, refl, sym, ap, ◌∙◌, subst, slice_index_or, arith}
+use Rattle.std.proofs.Common.{◌≡◌, ◌≢◌, ℕ, zero, suc, ◌≤◌, ◌<◌, List, [], ◌∷◌, ◌++◌, refl, sym, ap, subst, arith}
 use Rattle.std.specs.Prelude.{All, AllPairs}
 use Rattle.std.proofs.lemmas.List.Kept.{AllPairs-cons}
 use Rattle.luau_tree.specs.declared.position.Span.{Span}
@@ -8,7 +8,7 @@ use Rattle.luau_tree.specs.Tree as tree
 use Rattle.luau_tree.specs.Nodes.{Node, AnExpr, ABody, ABind, binds_among}
 use Rattle.luau_lex.specs.Tokens.{Tok}
 use Rattle.grammar_laws.specs.Outlines.{Outline, no_spans, more_spans, and_then, node}
-use Rattle.grammar_laws.specs.Laws.{AreNested, IsOfTokens, bind_start}
+use Rattle.grammar_laws.specs.Laws.{AreNested, bind_start}
 
 -- names that begin in a range
 abbrev InRange : ℕ → ℕ → List Bind → Type 0

@@ -1,6 +1,6 @@
 -- The phrases that hold one another, at each depth, and what follows for modules.
-use Rattle.std.proofs.Common.{◌≡◌, ℕ, zero, suc, ◌≤◌, ◌<◌, List, [], ◌∷◌, length, inl, inr, refl, sym, ap, subst, slice_index_or, arith}
-use Rattle.std.specs.Prelude.{Option, Some, None, Any}
+use Rattle.std.proofs.Common.{◌≡◌, ℕ, zero, suc, ◌≤◌, ◌<◌, List, [], ◌∷◌, length, inl, inr, sym, ap, subst, slice_index_or, arith}
+use Rattle.std.specs.Prelude.{Option, Some, None}
 use Rattle.luau_tree.specs.Tree.{Block}
 use Rattle.luau_lex.specs.Tokens.{Tok}
 use Rattle.luau_grammar.specs.Places.{Place, Rules, first_start, raised}

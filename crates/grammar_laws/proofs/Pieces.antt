@@ -1,5 +1,5 @@
 -- Pieces of a text between two places, with the outline of what stands there, and how pieces are put together.
-use Rattle.std.proofs.Common.{◌≡◌, ℕ, zero, suc, ◌≤◌, ◌<◌, true, false, List, [], ◌∷◌, length, ◌⊎◌, inl, inr, refl, sym, ap, ◌∙◌, subst, arith}
+use Rattle.std.proofs.Common.{◌≡◌, ℕ, suc, ◌≤◌, ◌<◌, true, false, List, [], ◌∷◌, length, ◌⊎◌, inl, inr, refl, sym, ap, ◌∙◌, subst, arith}
 use Rattle.std.specs.Prelude.{Any}
 use Rattle.luau_tree.specs.declared.position.Span.{Span}
 use Rattle.luau_lex.specs.Tokens.{Tok}
@@ -7,8 +7,8 @@ use Rattle.luau_grammar.specs.declared.symbol.Symbol.{Symbol}
 use Rattle.luau_grammar.specs.declared.symbol.Symbol.TheVariants as s
 use Rattle.luau_grammar.specs.Places.{Place, Rules, IsNext, Takes, TakesName, TakesNumber, TakesString, OpensArguments, sees, first_start, start_of, from_to, over, at_level}
 use Rattle.luau_grammar.specs.Lists.{AreSeparated, AreInBraces, TakesSeparator, sees_separator}
-use Rattle.grammar_laws.specs.Outlines.{Outline, no_spans, more_spans, and_then, node, mark}
-use Rattle.grammar_laws.specs.Laws.{AreInOrder, IsOfTokens, AreNested, end_of}
+use Rattle.grammar_laws.specs.Outlines.{Outline, no_spans, more_spans, and_then, node}
+use Rattle.grammar_laws.specs.Laws.{AreInOrder, AreNested}
 
 any_here : {X : Type 0} (P : X → Type 0) (x : X) (xs : List X) → P x → Any P (x ∷ xs)
 any_here P x xs h = (0, x, omega arith, refl, h)

@@ -1,5 +1,5 @@
 -- Statements and blocks: pieces with their outlines.
-use Rattle.std.proofs.Common.{◌≡◌, ℕ, Bool, true, false, List, [], ◌∷◌, inl, inr, refl, sym, subst}
+use Rattle.std.proofs.Common.{ℕ, Bool, true, false, List, [], ◌∷◌, inl, inr, refl, sym, subst}
 use Rattle.std.specs.Prelude.{Option, Some, None}
 use Rattle.luau_tree.specs.declared.position.Span.{Span}
 use Rattle.luau_tree.specs.Tree.{Block, Stat, StatKind, Arms, MaybeBlock, Expr, Exprs, MaybeExpr, ExprKind, Bind, Binds, Gens, TypeSyntax}
@@ -14,7 +14,7 @@ use Rattle.luau_grammar.specs.Phrases.{Phrases}
 use Rattle.luau_grammar.specs.Expressions as expressions
 use Rattle.luau_grammar.specs.Statements as grammar
 use Rattle.luau_grammar.specs.Statements.{is_last}
-use Rattle.grammar_laws.specs.Outlines.{Outline, no_spans, and_then, node, mark, of_expr, of_exprs, of_maybe_expr, of_expr_kind, of_body, of_bind, of_binds, of_gens, of_type, of_stat, of_stat_kind, of_arms, of_maybe_block, of_block}
+use Rattle.grammar_laws.specs.Outlines.{no_spans, and_then, mark, of_expr, of_exprs, of_maybe_expr, of_expr_kind, of_body, of_bind, of_binds, of_gens, of_type, of_stat, of_stat_kind, of_arms, of_maybe_block, of_block}
 use Rattle.grammar_laws.proofs.Pieces as piece
 use Rattle.grammar_laws.proofs.Pieces.{Piece, Maybe, and_nothing}
 use Rattle.grammar_laws.proofs.Front.{Held}

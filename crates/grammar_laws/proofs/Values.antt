@@ -1,6 +1,6 @@
 -- Expressions and bodies: pieces with their outlines.
 use Rattle.std.proofs.Common.{◌≡◌, ℕ, zero, suc, ◌+◌, Bool, true, false, List, [], ◌∷◌, inl, inr, refl, sym, ap, ◌∙◌, subst}
-use Rattle.std.specs.Prelude.{Option, Some, None, ◌⊎◌}
+use Rattle.std.specs.Prelude.{Option, Some, None}
 use Rattle.luau_tree.specs.declared.position.Span.{Span}
 use Rattle.luau_tree.specs.Tree.{Expr, Exprs, ExprKind, Choices, Item, Items, Body, Varargs, Bind, Binds, TypeSyntax, MaybeType}
 use Rattle.luau_tree.specs.Tree as tree
@@ -12,7 +12,7 @@ use Rattle.luau_grammar.specs.Places as place
 use Rattle.luau_grammar.specs.Places.{Place, Rules, over, raised, at_level}
 use Rattle.luau_grammar.specs.Phrases.{Phrases}
 use Rattle.luau_grammar.specs.Expressions as grammar
-use Rattle.grammar_laws.specs.Outlines.{Outline, no_spans, and_then, node, mark, self_of, unless, of_expr, of_exprs, of_expr_kind, of_choices, of_item, of_items, of_body, of_params, of_varargs, of_bind, of_binds, of_gens, of_maybe_type, of_type, of_block}
+use Rattle.grammar_laws.specs.Outlines.{Outline, no_spans, and_then, node, mark, self_of, of_expr, of_exprs, of_expr_kind, of_choices, of_item, of_items, of_body, of_params, of_varargs, of_bind, of_binds, of_gens, of_maybe_type, of_type, of_block}
 use Rattle.grammar_laws.proofs.Pieces as piece
 use Rattle.grammar_laws.proofs.Pieces.{Piece, Maybe, Lists, and_nothing}
 use Rattle.grammar_laws.proofs.Front.{Held}

@@ -1,7 +1,6 @@
 -- Written types: pieces with their outlines.
 use Rattle.std.proofs.Common.{◌≡◌, ℕ, zero, suc, Bool, true, false, List, [], ◌∷◌, inl, inr, refl, sym, ap, ◌∙◌, subst}
-use Rattle.std.specs.Prelude.{Option, Some, None, ◌⊎◌}
-use Rattle.luau_tree.specs.declared.position.Span.{Span}
+use Rattle.std.specs.Prelude.{Option, Some, None}
 use Rattle.luau_tree.specs.declared.names.Access.{Access}
 use Rattle.luau_tree.specs.declared.names.Access.TheVariants.{Both, Read, Write}
 use Rattle.luau_tree.specs.Tree.{TypeSyntax, TypeSyntaxes, TypeKind, MaybeType, Gen, Gens, Prop, Props, PropKey}
@@ -15,7 +14,7 @@ use Rattle.luau_grammar.specs.Places.{Place, Rules, first_start, start_of, raise
 use Rattle.luau_grammar.specs.Phrases.{Phrases, Listed, one_of, if_untailed, sole, in_parens}
 use Rattle.luau_grammar.specs.Types as grammar
 use Rattle.luau_grammar.specs.Types.{begin_of, pack_by, pack_of}
-use Rattle.grammar_laws.specs.Outlines.{Outline, no_spans, and_then, node, mark, of_expr, of_type, of_types, of_type_kind, of_maybe_type, of_gen, of_gens, of_prop, of_props, of_key}
+use Rattle.grammar_laws.specs.Outlines.{Outline, no_spans, and_then, mark, of_expr, of_type, of_types, of_type_kind, of_maybe_type, of_gen, of_gens, of_prop, of_props, of_key}
 use Rattle.grammar_laws.proofs.Pieces as piece
 use Rattle.grammar_laws.proofs.Pieces.{Piece, Maybe, Lists, and_nothing}
 use Rattle.grammar_laws.proofs.Front.{Front, Held}
