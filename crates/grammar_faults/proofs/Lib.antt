@@ -1,0 +1,10 @@
+pub mod FrontLaws
+pub mod Local
+pub mod LocalCases
+pub mod LocalTokens
+pub mod LocalSteps
+pub mod LocalTypes
+pub mod LocalExpressions
+pub mod LocalOperators
+pub mod LocalStatements
+pub mod LocalModules
