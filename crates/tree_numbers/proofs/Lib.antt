@@ -1,3 +1,6 @@
 pub mod Counts
 pub mod Counted
 pub mod Same
+pub mod Layers
+pub mod Turns
+pub mod Listed

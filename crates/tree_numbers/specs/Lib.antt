@@ -1,3 +1,5 @@
 pub mod Counting
 pub mod Numbered
 pub mod Erased
+pub mod Outcomes
+pub mod Calls
