@@ -12,6 +12,8 @@ mod numbers;
 mod parts;
 mod pass;
 mod stats;
+#[cfg(test)]
+mod tests;
 mod type_parts;
 mod types;
 

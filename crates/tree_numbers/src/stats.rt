@@ -2,6 +2,7 @@
 ghost use Rattle.luau_tree.specs.Tree as plain;
 ghost use Rattle.luau_tree.specs.View.{view_arms, view_bind, view_binds, view_block, view_body, view_expr, view_exprs, view_gens, view_maybe_block, view_maybe_expr, view_stat, view_type};
 ghost use Rattle.tree_numbers.specs.Calls.{Calls};
+ghost use Rattle.tree_numbers.specs.Bounds.{of_bounds};
 ghost use Rattle.tree_numbers.specs.Numbered.{of_stat};
 ghost use Rattle.tree_numbers.specs.Outcomes.{Gives};
 
@@ -105,6 +106,23 @@ impl<
         Ok(if_stat(span, arms, last))
     }
 
+    /// The bounds of a loop over numbers.
+    fn bounds(
+        &self,
+        numbers: &mut Numbers,
+        from: Expr,
+        to: Expr,
+        step: Option<Expr>,
+    ) -> Result<(Expr, Expr, Option<Expr>), NumberError>
+        requires { Calls self.now.depth (E.pre self.now.exp) (E.post self.now.exp) (T.pre self.now.typ) (T.post self.now.typ) (B.pre self.now.block) (B.post self.now.block) }
+        ensures { Gives (λ b. (view_expr b.0, view_expr b.1, view_maybe_expr b.2)) (of_bounds (view_expr from) (view_expr to) (view_maybe_expr step)) numbers.old result numbers.new }
+    {
+        let from = self.expression(numbers, from)?;
+        let to = self.expression(numbers, to)?;
+        let step = self.maybe_expr(numbers, step)?;
+        Ok((from, to, step))
+    }
+
     /// `for i = a, b, c do .. end`
     fn num_for(
         &self,
@@ -120,9 +138,7 @@ impl<
         ensures { Gives view_stat (of_stat (plain.the_stat span (plain.NumFor (view_bind bind) (view_expr from) (view_expr to) (view_maybe_expr step) (view_block body)))) numbers.old result numbers.new }
     {
         let bind = self.bind(numbers, bind)?;
-        let from = self.expression(numbers, from)?;
-        let to = self.expression(numbers, to)?;
-        let step = self.maybe_expr(numbers, step)?;
+        let (from, to, step) = self.bounds(numbers, from, to, step)?;
         let body = self.block(numbers, body)?;
         Ok(num_for_stat(span, bind, from, to, step, body))
     }
