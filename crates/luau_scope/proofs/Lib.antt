@@ -1,3 +1,14 @@
 pub mod Earliest
 pub mod InOrder
 pub mod Matches
+pub mod ScopeLemmas
+pub mod Walk
+pub mod AfterTypes
+pub mod AfterExprs
+pub mod AfterLocals
+pub mod AfterStats
+pub mod Totals
+pub mod AfterRepeat
+pub mod Lookups
+pub mod Layers
+pub mod Forms

@@ -6,10 +6,25 @@
 #![tactic(auto)]
 
 pub mod examples;
+mod findings;
+mod growing;
 pub mod laws;
+mod lookup;
+mod names;
+mod numbers;
 mod reading;
 mod refusal;
 pub mod refusals;
+mod resolver;
+mod scope;
+mod task;
+mod visit_exprs;
+mod visit_locals;
+mod visit_stats;
+mod visit_types;
+mod walker;
+mod within;
 
 pub use reading::{LocalInfo, RequireSite, Scoped, Use};
 pub use refusal::{Refusal, ScopeError};
+pub use resolver::resolve;
