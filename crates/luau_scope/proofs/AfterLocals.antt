@@ -102,7 +102,7 @@ entries_found w a own (plain.more_binds bind rest) n s e =
     entries_found w a (own + 1) rest after entered e
     ∙ ap (λ (f : Findings). record s { scope = entered.scope ++ finds.numbered a rest after; found = f }) (sym (with_join (finds.of_entry own (finds.declared_span bind)) (finds.of_entries (own + 1) rest) s.found))
     ∙ ap (λ (scope : Scope). record s { scope = scope; found = with_part (finds.of_entries own (plain.more_binds bind rest)) s.found })
-      (append_assoc ∙ ap (λ f. s.scope ++ record { name = finds.declared_name bind; local = n; function = f } ∷ finds.numbered a rest after) (sym e))
+      (append_assoc s.scope (finds.local_here (around_in s w) (finds.declared_name bind) n ∷ []) (finds.numbered a rest after) ∙ ap (λ f. s.scope ++ record { name = finds.declared_name bind; local = n; function = f } ∷ finds.numbered a rest after) (sym e))
 
 same_declarations : (a : Around) (given : Option ExprId) (name : List ℕ) (span : Span) (typ : plain.MaybeType) (n : ℕ)
     → declarations (finds.of_bind a given (plain.the_bind name span typ) n) ≡ declarations (finds.of_bind a None (plain.the_bind name span typ) n)
@@ -136,11 +136,12 @@ one_declared w all name span typ rest given values numbers s =
     let n = length s.found.locals in
     let after = n + declarations (finds.of_bind a None bind n) in
     let t = after_part first s in
-    let same : after ≡ length t.found.locals = sym (locals_added (first n) s.found) in
+    let same : after ≡ length t.found.locals =
+        ap (λ (k : ℕ). n + k) (sym (same_declarations a (finds.first_value given) name span typ n)) ∙ sym (locals_added (first n) s.found) in
     ap (after_enter w all (numbers ++ n ∷ numbers_of a rest after))
       (after_join (join first others) later s ∙ ap (after_part later) (after_join first others s) ∙ sym (after_join others later t))
     ∙ ap (λ (m : ℕ). after_enter w all (numbers ++ n ∷ numbers_of a rest m) (after_part (join others later) t)) same
-    ∙ ap (λ (ns : List ℕ). after_enter w all ns (after_part (join others later) t)) (sym append_assoc)
+    ∙ ap (λ (ns : List ℕ). after_enter w all ns (after_part (join others later) t)) (sym (append_assoc numbers (n ∷ []) (numbers_of a rest (length t.found.locals))))
     ∙ ap (λ (u : Walker). after_enter w all ((numbers ++ n ∷ []) ++ numbers_of (around_in u w) rest (length u.found.locals)) (after_part (join (finds.of_binds (around_in u w) rest (finds.other_values given)) (finds.of_exprs (around_in u w) values)) u))
       (sym (bind_found w (finds.first_value given) name span typ s))
 

@@ -28,7 +28,7 @@ grows_not : (scope : Scope) → Grows scope scope
 grows_not scope = record { more = []; is = sym (append-nil scope) }
 
 grows_then : (a b c : Scope) → Grows a b → Grows b c → Grows a c
-grows_then a b c f g = record { more = f.more ++ g.more; is = g.is ∙ ap (λ (scope : Scope). scope ++ g.more) f.is ∙ append_assoc }
+grows_then a b c f g = record { more = f.more ++ g.more; is = g.is ∙ ap (λ (scope : Scope). scope ++ g.more) f.is ∙ append_assoc a f.more g.more }
 
 kind_grows : (a : Around) (kind : plain.StatKind) (n : ℕ) → Grows a.scope (finds.behind_kind a kind n)
 kind_grows a (plain.LocalFunction bind body) n = record { more = _; is = refl }

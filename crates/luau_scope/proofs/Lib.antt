@@ -9,6 +9,10 @@ pub mod AfterLocals
 pub mod AfterStats
 pub mod Totals
 pub mod AfterRepeat
+pub mod Splits
+pub mod Pushes
 pub mod Lookups
 pub mod Layers
 pub mod Forms
+pub mod Visits
+pub mod VisitBlocks

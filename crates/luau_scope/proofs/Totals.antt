@@ -1,6 +1,7 @@
 -- What findings amount to, list by list.
 use Rattle.std.proofs.Common.{◌≡◌, ℕ, zero, suc, ◌+◌, ◌<◌, ◌≤◌, Bool, true, false, cond, List, [], ◌∷◌, ◌++◌, length, map, refl, sym, ap, ◌∙◌, append_assoc, add-one, arith}
 use Rattle.std.proofs.lemmas.List.{append-nil}
+use Rattle.std.proofs.lemmas.Bool.{false≢true}
 use Rattle.std.proofs.lemmas.Bool.Decides.{nat_tests}
 use Rattle.std.specs.Prelude.{Option, Some, None, if◌then◌else◌, nat_lt, nat_le, ◌||◌, ◌&&◌, ◌==◌}
 use Rattle.std.specs.List.{filter_map}
@@ -28,7 +29,7 @@ a_continue _ = None
 pub uses_added : (found : List Found) (w : Findings) → (added found w).uses ≡ w.uses ++ filter_map a_use found
 unfolding added
 uses_added [] w = sym (append-nil w.uses)
-uses_added (Means at meaning ∷ found) w = uses_added found (step (Means at meaning) w) ∙ append_assoc
+uses_added (Means at meaning ∷ found) w = uses_added found (step (Means at meaning) w) ∙ append_assoc w.uses ((at, meaning) ∷ []) (filter_map a_use found)
 uses_added (Declares name declared function given ∷ found) w = uses_added found (step (Declares name declared function given) w)
 uses_added (Captures local ∷ found) w = uses_added found (step (Captures local) w)
 uses_added (Assigns local ∷ found) w = uses_added found (step (Assigns local) w)
@@ -39,7 +40,7 @@ uses_added (Refuses why at ∷ found) w = uses_added found (step (Refuses why at
 pub captured_added : (found : List Found) (w : Findings) → (added found w).captured ≡ w.captured ++ filter_map a_captured found
 unfolding added
 captured_added [] w = sym (append-nil w.captured)
-captured_added (Captures local ∷ found) w = captured_added found (step (Captures local) w) ∙ append_assoc
+captured_added (Captures local ∷ found) w = captured_added found (step (Captures local) w) ∙ append_assoc w.captured (local ∷ []) (filter_map a_captured found)
 captured_added (Means at meaning ∷ found) w = captured_added found (step (Means at meaning) w)
 captured_added (Declares name declared function given ∷ found) w = captured_added found (step (Declares name declared function given) w)
 captured_added (Assigns local ∷ found) w = captured_added found (step (Assigns local) w)
@@ -50,7 +51,7 @@ captured_added (Refuses why at ∷ found) w = captured_added found (step (Refuse
 pub assigned_added : (found : List Found) (w : Findings) → (added found w).assigned ≡ w.assigned ++ filter_map an_assigned found
 unfolding added
 assigned_added [] w = sym (append-nil w.assigned)
-assigned_added (Assigns local ∷ found) w = assigned_added found (step (Assigns local) w) ∙ append_assoc
+assigned_added (Assigns local ∷ found) w = assigned_added found (step (Assigns local) w) ∙ append_assoc w.assigned (local ∷ []) (filter_map an_assigned found)
 assigned_added (Captures local ∷ found) w = assigned_added found (step (Captures local) w)
 assigned_added (Means at meaning ∷ found) w = assigned_added found (step (Means at meaning) w)
 assigned_added (Declares name declared function given ∷ found) w = assigned_added found (step (Declares name declared function given) w)
@@ -61,7 +62,7 @@ assigned_added (Refuses why at ∷ found) w = assigned_added found (step (Refuse
 pub required_added : (found : List Found) (w : Findings) → (added found w).required ≡ w.required ++ filter_map a_require found
 unfolding added
 required_added [] w = sym (append-nil w.required)
-required_added (RequiresModule site ∷ found) w = required_added found (step (RequiresModule site) w) ∙ append_assoc
+required_added (RequiresModule site ∷ found) w = required_added found (step (RequiresModule site) w) ∙ append_assoc w.required (site ∷ []) (filter_map a_require found)
 required_added (Assigns local ∷ found) w = required_added found (step (Assigns local) w)
 required_added (Captures local ∷ found) w = required_added found (step (Captures local) w)
 required_added (Means at meaning ∷ found) w = required_added found (step (Means at meaning) w)
@@ -72,7 +73,7 @@ required_added (Refuses why at ∷ found) w = required_added found (step (Refuse
 pub pending_added : (found : List Found) (w : Findings) → (added found w).pending ≡ w.pending ++ filter_map a_continue found
 unfolding added
 pending_added [] w = sym (append-nil w.pending)
-pending_added (Continues at before ∷ found) w = pending_added found (step (Continues at before) w) ∙ append_assoc
+pending_added (Continues at before ∷ found) w = pending_added found (step (Continues at before) w) ∙ append_assoc w.pending ((at, before) ∷ []) (filter_map a_continue found)
 pending_added (RequiresModule site ∷ found) w = pending_added found (step (RequiresModule site) w)
 pending_added (Assigns local ∷ found) w = pending_added found (step (Assigns local) w)
 pending_added (Captures local ∷ found) w = pending_added found (step (Captures local) w)
@@ -127,8 +128,11 @@ reached (RequiresModule site ∷ until) before so_far declared = reached until b
 reached (Continues at b ∷ until) before so_far declared = reached until before so_far declared
 reached (Refuses why at ∷ until) before so_far declared = reached until before so_far declared
 
+not_below_zero : (n : ℕ) → nat_lt n 0 ≡ false
+not_below_zero n = grind (arith, nat_tests)
+
 reached_from_none : (until : List Found) (before declared : ℕ) → nat_lt before (reach (filter_map a_use until) declared) ≡ uses_between before declared until
-reached_from_none until before declared = reached until before 0 declared
+reached_from_none until before declared = reached until before 0 declared ∙ ap (λ (b : Bool). b || uses_between before declared until) (not_below_zero before)
 
 pub passed : (body until : List Found) (declared : ℕ) → passed_by (reach (filter_map a_use until) declared) (filter_map a_continue body) ≡ past_locals body until declared
 passed [] until declared = refl
@@ -156,12 +160,23 @@ before_trans a b c p q r e f = grind (arith, nat_tests)
 before_split : (a b c p q r : ℕ) → (nat_lt a c || (a == c && nat_lt p r)) ≡ true → (nat_lt a b || (a == b && nat_lt p q)) ≡ false → (nat_lt b c || (b == c && nat_lt q r)) ≡ true
 before_split a b c p q r e f = grind (arith, nat_tests)
 
+yes : (r s : Refused) → comes_before s r ≡ true → earlier_of r s ≡ s
+yes r s e = ap (λ (b : Bool). if b then s else r) e
+
+no : (r s : Refused) → comes_before s r ≡ false → earlier_of r s ≡ r
+no r s e = ap (λ (b : Bool). if b then s else r) e
+
 assoc_by : (q r s : Refused) (rq sr sq : Bool) → comes_before r q ≡ rq → comes_before s r ≡ sr → comes_before s q ≡ sq → earlier_of (earlier_of q r) s ≡ earlier_of q (earlier_of r s)
-assoc_by q r s true true sq a b c = rw (a, b) (rw (b, before_trans s.1.start r.1.start q.1.start (rank s.0) (rank r.0) (rank q.0) b a) refl)
-assoc_by q r s true false sq a b c = rw (a, b) (rw (a, b) refl)
-assoc_by q r s false true sq a b c = rw (a, b) refl
-assoc_by q r s false false true a b c = absurd (cc (before_split s.1.start r.1.start q.1.start (rank s.0) (rank r.0) (rank q.0) c b))
-assoc_by q r s false false false a b c = rw (a, b) (rw (a, c) refl)
+assoc_by q r s true true sq a b c =
+    ap (λ (t : Refused). earlier_of t s) (yes q r a) ∙ yes r s b
+    ∙ sym (ap (λ (t : Refused). earlier_of q t) (yes r s b) ∙ yes q s (before_trans s.1.start r.1.start q.1.start (rank s.0) (rank r.0) (rank q.0) b a))
+assoc_by q r s true false sq a b c =
+    ap (λ (t : Refused). earlier_of t s) (yes q r a) ∙ no r s b ∙ sym (ap (λ (t : Refused). earlier_of q t) (no r s b) ∙ yes q r a)
+assoc_by q r s false true sq a b c = ap (λ (t : Refused). earlier_of t s) (no q r a) ∙ sym (ap (λ (t : Refused). earlier_of q t) (yes r s b))
+assoc_by q r s false false true a b c =
+    absurd (false≢true (sym a ∙ before_split s.1.start r.1.start q.1.start (rank s.0) (rank r.0) (rank q.0) c b))
+assoc_by q r s false false false a b c =
+    ap (λ (t : Refused). earlier_of t s) (no q r a) ∙ no q s c ∙ sym (ap (λ (t : Refused). earlier_of q t) (no r s b) ∙ no q r a)
 
 earlier_assoc : (q r s : Refused) → earlier_of (earlier_of q r) s ≡ earlier_of q (earlier_of r s)
 earlier_assoc q r s = assoc_by q r s _ _ _ refl refl refl
@@ -198,7 +213,7 @@ a_declared _ = None
 pub declared_added : (found : List Found) (w : Findings) → (added found w).locals ≡ w.locals ++ filter_map a_declared found
 unfolding added
 declared_added [] w = sym (append-nil w.locals)
-declared_added (Declares name declared function given ∷ found) w = declared_added found (step (Declares name declared function given) w) ∙ append_assoc
+declared_added (Declares name declared function given ∷ found) w = declared_added found (step (Declares name declared function given) w) ∙ append_assoc w.locals (record { name = name; declared = declared; function = function; given = given } ∷ []) (filter_map a_declared found)
 declared_added (Continues at before ∷ found) w = declared_added found (step (Continues at before) w)
 declared_added (RequiresModule site ∷ found) w = declared_added found (step (RequiresModule site) w)
 declared_added (Assigns local ∷ found) w = declared_added found (step (Assigns local) w)

@@ -16,19 +16,16 @@ impl Scoped {
         ensures { option_copied result ≡ use_at self.now.uses at }
     {
         let mut rest = self.uses.as_slice();
-        while !rest.is_empty() {
-            let middle = rest.len() / 2;
-            let (id, meaning) = &rest[middle];
+        loop {
+            let (front, back) = rest.split_at(rest.len() / 2);
+            let [(id, meaning), behind @ ..] = back else {
+                return None;
+            };
             if at.0 == id.0 {
                 return Some(meaning);
             }
-            rest = if at.0 < id.0 {
-                &rest[..middle]
-            } else {
-                &rest[middle + 1..]
-            };
+            rest = if at.0 < id.0 { front } else { behind };
         }
-        None
     }
 
     /// The path of the builtin that an expression is for certain: its own, or that of a local that is not assigned and

@@ -14,7 +14,6 @@ use std::alloc::AllocError;
 
 impl<'p> Walker<'p> {
     /// An expression. What is to be gone through first is pushed last, here and below.
-    #[tactic(auto, using(crate::proofs::Forms::expr_forms))]
     pub(crate) fn expr<'t>(
         &mut self,
         tasks: &mut Items<Task<'t>>,
@@ -71,7 +70,6 @@ impl<'p> Walker<'p> {
     }
 
     /// A call. The callee of a static require is no use that is refused.
-    #[tactic(auto, using(crate::proofs::Forms::call_forms))]
     fn call<'t>(
         &mut self,
         tasks: &mut Items<Task<'t>>,
@@ -92,7 +90,6 @@ impl<'p> Walker<'p> {
         }
     }
 
-    #[tactic(auto, using(crate::proofs::Forms::exprs_forms))]
     pub(crate) fn exprs<'t>(
         &mut self,
         tasks: &mut Items<Task<'t>>,
@@ -108,7 +105,6 @@ impl<'p> Walker<'p> {
         tasks.push(Task::Expr(within, first))
     }
 
-    #[tactic(auto, using(crate::proofs::Forms::maybe_expr_forms))]
     pub(crate) fn maybe_expr<'t>(
         &mut self,
         tasks: &mut Items<Task<'t>>,
@@ -123,7 +119,6 @@ impl<'p> Walker<'p> {
         }
     }
 
-    #[tactic(auto, using(crate::proofs::Forms::choices_forms))]
     pub(crate) fn choices<'t>(
         &mut self,
         tasks: &mut Items<Task<'t>>,
@@ -140,7 +135,6 @@ impl<'p> Walker<'p> {
         tasks.push(Task::Expr(within, &first.cond))
     }
 
-    #[tactic(auto, using(crate::proofs::Forms::items_forms))]
     pub(crate) fn items<'t>(
         &mut self,
         tasks: &mut Items<Task<'t>>,
@@ -164,7 +158,6 @@ impl<'p> Walker<'p> {
     }
 
     /// The header of a function belongs to the function.
-    #[tactic(auto, using(crate::proofs::Forms::body_forms))]
     pub(crate) fn body<'t>(
         &mut self,
         tasks: &mut Items<Task<'t>>,

@@ -105,7 +105,6 @@ impl<'p> Walker<'p> {
     }
 
     /// Parameters.
-    #[tactic(auto, using(crate::proofs::Forms::params_forms))]
     pub(crate) fn params<'t>(
         &mut self,
         tasks: &mut Items<Task<'t>>,
@@ -123,7 +122,6 @@ impl<'p> Walker<'p> {
     }
 
     /// Declarations, then their values, and then they come into scope.
-    #[tactic(auto, using(crate::proofs::Forms::locals_forms))]
     pub(crate) fn locals<'t>(
         &mut self,
         tasks: &mut Items<Task<'t>>,
@@ -200,7 +198,6 @@ impl<'p> Walker<'p> {
     }
 
     /// Targets of an assignment.
-    #[tactic(auto, using(crate::proofs::Forms::targets_forms))]
     pub(crate) fn targets<'t>(
         &mut self,
         tasks: &mut Items<Task<'t>>,

@@ -17,7 +17,6 @@ use std::alloc::AllocError;
 
 impl<'p> Walker<'p> {
     /// Statements, whose locals stay in scope. What is to be gone through first is pushed last, here and below.
-    #[tactic(auto, using(crate::proofs::Forms::stats_forms))]
     pub(crate) fn stats<'t>(
         &mut self,
         tasks: &mut Items<Task<'t>>,
@@ -33,7 +32,6 @@ impl<'p> Walker<'p> {
         self.stat(tasks, within, first.span, &first.kind)
     }
 
-    #[tactic(auto, using(crate::proofs::Forms::stat_forms))]
     fn stat<'t>(
         &mut self,
         tasks: &mut Items<Task<'t>>,
@@ -109,7 +107,6 @@ impl<'p> Walker<'p> {
     }
 
     /// A block and the end of its scope.
-    #[tactic(auto, using(crate::proofs::Forms::block_forms))]
     pub(crate) fn block<'t>(
         &mut self,
         tasks: &mut Items<Task<'t>>,
@@ -122,7 +119,6 @@ impl<'p> Walker<'p> {
         tasks.push(Task::Stats(within, block.stats.as_slice()))
     }
 
-    #[tactic(auto, using(crate::proofs::Forms::arms_forms))]
     pub(crate) fn arms<'t>(
         &mut self,
         tasks: &mut Items<Task<'t>>,
@@ -139,7 +135,6 @@ impl<'p> Walker<'p> {
         tasks.push(Task::Expr(within, &first.cond))
     }
 
-    #[tactic(auto, using(crate::proofs::Forms::last_forms))]
     pub(crate) fn last<'t>(
         &mut self,
         tasks: &mut Items<Task<'t>>,
@@ -155,7 +150,6 @@ impl<'p> Walker<'p> {
     }
 
     /// A numeric `for`.
-    #[tactic(auto, using(crate::proofs::Forms::num_for_forms))]
     fn num_for<'t>(
         &mut self,
         tasks: &mut Items<Task<'t>>,
@@ -181,7 +175,6 @@ impl<'p> Walker<'p> {
     }
 
     /// A `for` with an iterator.
-    #[tactic(auto, using(crate::proofs::Forms::gen_for_forms))]
     fn gen_for<'t>(
         &mut self,
         tasks: &mut Items<Task<'t>>,
@@ -206,7 +199,6 @@ impl<'p> Walker<'p> {
     }
 
     /// A `local`.
-    #[tactic(auto, using(crate::proofs::Forms::local_forms))]
     fn local_stat<'t>(
         &mut self,
         tasks: &mut Items<Task<'t>>,
@@ -228,7 +220,6 @@ impl<'p> Walker<'p> {
     }
 
     /// A `repeat`, whose `until` is in the scope of its body.
-    #[tactic(auto, using(crate::proofs::Forms::repeat_forms))]
     fn repeat<'t>(
         &mut self,
         tasks: &mut Items<Task<'t>>,
@@ -284,7 +275,8 @@ impl<'p> Walker<'p> {
     {
         match within.around {
             LoopAround::Without => self.found.refuse(Refusal::BreakOutsideLoop, at),
-            LoopAround::Repeat | LoopAround::Other => {}
+            LoopAround::Repeat => {}
+            LoopAround::Other => {}
         }
     }
 

@@ -12,7 +12,6 @@ use sqlite_items::Items;
 use std::alloc::AllocError;
 
 impl<'p> Walker<'p> {
-    #[tactic(auto, using(crate::proofs::Forms::type_forms))]
     pub(crate) fn written<'t>(
         &mut self,
         tasks: &mut Items<Task<'t>>,
@@ -48,7 +47,6 @@ impl<'p> Walker<'p> {
         }
     }
 
-    #[tactic(auto, using(crate::proofs::Forms::types_forms))]
     pub(crate) fn types<'t>(
         &mut self,
         tasks: &mut Items<Task<'t>>,
@@ -64,7 +62,6 @@ impl<'p> Walker<'p> {
         tasks.push(Task::Type(within, typ))
     }
 
-    #[tactic(auto, using(crate::proofs::Forms::maybe_type_forms))]
     pub(crate) fn maybe_type<'t>(
         &mut self,
         tasks: &mut Items<Task<'t>>,
@@ -79,7 +76,6 @@ impl<'p> Walker<'p> {
         }
     }
 
-    #[tactic(auto, using(crate::proofs::Forms::varargs_forms))]
     pub(crate) fn varargs<'t>(
         &mut self,
         tasks: &mut Items<Task<'t>>,
@@ -94,7 +90,6 @@ impl<'p> Walker<'p> {
         }
     }
 
-    #[tactic(auto, using(crate::proofs::Forms::gens_forms))]
     pub(crate) fn gens<'t>(
         &mut self,
         tasks: &mut Items<Task<'t>>,
@@ -111,7 +106,6 @@ impl<'p> Walker<'p> {
         tasks.push(Task::MaybeType(within, &first.default))
     }
 
-    #[tactic(auto, using(crate::proofs::Forms::props_forms))]
     pub(crate) fn props<'t>(
         &mut self,
         tasks: &mut Items<Task<'t>>,

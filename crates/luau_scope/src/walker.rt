@@ -36,6 +36,7 @@ fn is_same(f: Option<FnId>, g: Option<FnId>) -> bool
     }
 }
 
+#[tactic(auto, unfolding(crate::specs::Steps::added, crate::specs::Found::join))]
 impl<'p> Walker<'p> {
     /// Where a test holds, refuses.
     pub(crate) fn refuse_if(&mut self, test: bool, why: Refusal, at: Span)
