@@ -18,3 +18,6 @@ mod written;
 pub use joining::union;
 pub use meeting::meet;
 pub use widening::{widen, widen_at};
+
+#[cfg(test)]
+mod tests;
