@@ -35,6 +35,14 @@ impl PathSet {
         }
     }
 
+    /// The paths, each of which comes before the next by its bytes.
+    pub fn as_slice(&self) -> &[Bytes]
+        ensures paths { result.now ≡ self.now }
+        ensures ascending { IsAscending self.now }
+    {
+        self.paths.as_slice()
+    }
+
     /// Whether a path is one of the set. Takes no memory.
     pub fn has(&self, path: &[u8]) -> bool
         ensures { IsTrue result ↔ Contains self.now path.now }
@@ -61,6 +69,7 @@ mod tests {
         let path = Bytes::of(Vec::from_slice(alloc, b"math.abs")?);
         let set = PathSet::of(vec![in alloc; path]?);
         assert!(rt; set.has(b"math.abs"));
+        assert!(rt; set.as_slice().len() == 1);
         for other in ["", "math", "math.ab", "math.abs.", "math.bbs", "table.abs"] {
             assert!(rt; !set.has(other.as_bytes()), "{other}");
         }
