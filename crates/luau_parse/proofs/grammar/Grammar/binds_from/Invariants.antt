@@ -1,0 +1,21 @@
+use Rattle.std.specs.Prelude.{List, map, ◌∷◌, []}
+use Rattle.luau_tree.specs.Tree.{Bind}
+use Rattle.luau_tree.specs.View.{view_bind}
+use Rattle.luau_grammar.specs.declared.symbol.Symbol.TheVariants as s
+use Rattle.luau_grammar.specs.Places.{sees}
+use Rattle.luau_grammar.specs.Reading.{another, separated_from}
+use Rattle.luau_grammar.specs.ReadExpressions.{bind}
+use Rattle.luau_grammar.specs.Reading.{strictly, pure}
+use Rattle.luau_grammar.specs.ReadModules.{readers}
+use Rattle.luau_parse.specs.Outcomes.{place_of}
+use Rattle.luau_parse.proofs.Repeats.{Remains}
+use Rattle.luau_parse.proofs.grammar.Grammar.binds_from.Given as goal
+
+-- what is left to read gives the whole
+abbrev pub invariant-loop-found : goal.invariant-loop-found
+invariant-loop-found g l =
+    Remains (List Bind) (List Bind) (strictly l.self.text.now) (λ _ p. sees s.Comma p) (another (strictly l.self.text.now) (bind (strictly l.self.text.now) (readers (strictly l.self.text.now) l.self.depth))) (λ x. pure x) l.turns (map view_bind l.found) (place_of l.tokens)
+    (separated_from (strictly l.self.text.now) (bind (strictly l.self.text.now) (readers (strictly l.self.text.now) l.self.depth)) (view_bind l.fn.first ∷ []) (place_of l.fn.tokens))
+
+abbrev pub decreases-loop-found : goal.decreases-loop-found
+decreases-loop-found g l = l.turns
