@@ -68,6 +68,8 @@ fn end(rt: &impl Eprint, status: Status) -> ExitCode
 }
 
 #[cfg(test)]
+mod grammar_tests;
+#[cfg(test)]
 mod memory_tests;
 #[cfg(test)]
 mod run_tests;

@@ -118,19 +118,69 @@ fn a_text_gives_its_lines(rt: HostRuntime) -> Result<(), Fail> {
             "5:1",
             FAILS,
         ),
+        ("math.abs(1);", Status::Clean, "", ""),
+        ("math.abs\"hi\"", Status::Reports, "1:9", FAILS),
+        ("math.abs\"hi\";", Status::Reports, "1:9", FAILS),
         ("local x", Status::Refused, "1:1", FORM),
-        ("math.abs\n(1)", Status::Refused, "1:1", FORM),
-        ("math.abs --[[\n]] (1)", Status::Refused, "1:1", FORM),
-        ("math.abs(1", Status::Refused, "1:1", FORM),
         ("math.abs()", Status::Refused, "1:1", FORM),
         ("math.abs(nilx)", Status::Refused, "1:1", FORM),
         ("math.abs(-1)", Status::Refused, "1:1", FORM),
-        ("math.abs(1);", Status::Refused, "1:1", FORM),
-        ("math.abs\"hi\"", Status::Refused, "1:1", FORM),
+        ("math.abs(1, 2)", Status::Refused, "1:1", FORM),
         ("math.abs(`a`)", Status::Refused, "1:1", FORM),
+        ("math.abs{}", Status::Refused, "1:1", FORM),
         ("math.ab(1)", Status::Refused, "1:1", FORM),
-        ("math.abs(1) x", Status::Refused, "1:1", FORM),
         ("Math.abs(1)", Status::Refused, "1:1", FORM),
+        ("math:abs(1)", Status::Refused, "1:1", FORM),
+        (
+            "math.abs\n(1)",
+            Status::Refused,
+            "2:1",
+            "refused: ambiguous call",
+        ),
+        (
+            "math.abs --[[\n]] (1)",
+            Status::Refused,
+            "2:4",
+            "refused: ambiguous call",
+        ),
+        ("f\n(x)", Status::Refused, "2:1", "refused: ambiguous call"),
+        (
+            "math.abs(1",
+            Status::Refused,
+            "1:11",
+            "refused: unexpected end",
+        ),
+        (
+            "math.abs(1) x",
+            Status::Refused,
+            "1:14",
+            "refused: unexpected end",
+        ),
+        (
+            "local x = (",
+            Status::Refused,
+            "1:12",
+            "refused: unexpected end",
+        ),
+        (
+            "if x then",
+            Status::Refused,
+            "1:10",
+            "refused: unexpected end",
+        ),
+        ("x y", Status::Refused, "1:3", "refused: unexpected token"),
+        (
+            "x = = 1",
+            Status::Refused,
+            "1:5",
+            "refused: unexpected token",
+        ),
+        (
+            "return 1 2",
+            Status::Refused,
+            "1:10",
+            "refused: unexpected token",
+        ),
         (
             "math.abs(\"x",
             Status::Refused,
@@ -192,18 +242,49 @@ fn a_text_gives_its_lines(rt: HostRuntime) -> Result<(), Fail> {
     Ok(())
 }
 
+/// `local x = 1`, the value in so many parentheses.
+fn in_parentheses(alloc: Global, count: usize) -> Result<Vec<u8>, Fail> {
+    let mut text = Vec::from_slice(alloc, b"local x = ")?;
+    for _ in 0..count {
+        text.push(b'(')?;
+    }
+    text.push(b'1')?;
+    for _ in 0..count {
+        text.push(b')')?;
+    }
+    Ok(text)
+}
+
+#[test]
+fn phrases_stand_at_two_hundred_levels(rt: HostRuntime) -> Result<(), Fail> {
+    let alloc = rt.alloc();
+    for (count, line) in [
+        (198, "a.luau:1:1: refused: form not built\n"),
+        (199, "a.luau:1:210: refused: nesting\n"),
+    ] {
+        let text = in_parentheses(alloc, count)?;
+        let root = root(alloc, &[("a.luau", text.as_slice())])?;
+        assert!(rt;
+            gives(alloc, "d;", root, &[], Status::Refused, line)?,
+            "{count}"
+        );
+    }
+    Ok(())
+}
+
 #[test]
 fn a_part_of_a_call_is_refused(rt: HostRuntime) -> Result<(), Fail> {
     let alloc = rt.alloc();
     let whole = b"math . abs ( \"hi\" )".as_slice();
     for len in 1..whole.len() {
+        let column = len + 1;
         let line = match len {
-            14..=16 => "a.luau:1:14: refused: unfinished string\n",
-            _ => "a.luau:1:1: refused: form not built\n",
+            14..=16 => String::from_str(alloc, "a.luau:1:14: refused: unfinished string\n")?,
+            _ => format!(in alloc; "a.luau:1:{column}: refused: unexpected end\n")?,
         };
         let root = root(alloc, &[("a.luau", &whole[..len])])?;
         assert!(rt;
-            gives(alloc, "d;", root, &[], Status::Refused, line)?,
+            gives(alloc, "d;", root, &[], Status::Refused, line.as_str())?,
             "{len}"
         );
     }
@@ -228,7 +309,7 @@ fn a_folder_gives_its_lines(rt: HostRuntime) -> Result<(), Fail> {
             [].as_slice(),
             Status::Refused,
             "a.luau:1:10: argument 1 of math.abs always fails\n\
-            b?.lua:1:1: refused: form not built\n\
+            b?.lua:1:2: refused: unexpected end\n\
             b.luau:1:10: argument 1 of math.abs always fails\n\
             b.luau:1:25: argument 1 of math.abs always fails\n",
         ),

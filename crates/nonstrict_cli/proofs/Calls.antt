@@ -1,12 +1,13 @@
 -- Reading calls one after the other.
-use Rattle.std.proofs.Common.{◌≡◌, ◌<◌, ◌++◌, ℕ, Bool, List, [], ◌∷◌, Option, None, Some, length, drop, map, refl, arith, ap, sym, ◌∙◌, append_assoc, option_map}
+use Rattle.std.proofs.Common.{◌≡◌, ◌≤◌, ◌++◌, ℕ, List, [], ◌∷◌, Option, None, Some, drop, length, refl, ap, sym, ◌∙◌, append_assoc, option_map}
+use Rattle.std.proofs.lemmas.List.{append-nil, drop_all}
 use Rattle.std.specs.Option.{option_and_then}
-use Rattle.luau_lex.specs.declared.token.Token.{Token}
-use Rattle.luau_lex.specs.Tokens.{Tok, seen_token}
-use Rattle.nonstrict_cli.specs.declared.form.Call as code
+use Rattle.luau_tree.specs.Tree.{Block, Stat}
+use Rattle.luau_tree.specs.Tree as tree
+use Rattle.luau_tree.specs.View.{view_stats}
+use Rattle.luau_tree.specs.declared.tree as code
 use Rattle.rules_certain.specs.Calls.{Written}
-use Rattle.nonstrict_cli.specs.Form.{call_in, calls_in, faults_in, offset_of, offsets_at, offsets_of}
-use Rattle.nonstrict_cli.specs.Seen.{call_then, seen_call}
+use Rattle.nonstrict_cli.specs.Form.{call_in, calls_in, faults_in, offset_of, offsets_of}
 
 -- two parts before are one
 option_map-append : (xs ys : List ℕ) (later : Option (List ℕ)) → option_map (λ l. xs ++ l) (option_map (λ l. ys ++ l) later) ≡ option_map (λ l. (xs ++ ys) ++ l) later
@@ -20,22 +21,32 @@ call_by_call (Some c) None = refl
 call_by_call (Some c) (Some calls) = refl
 
 -- reading goes on behind a call
-pub faults_step : (text : List ℕ) (tokens rest : List Token) (at : ℕ) (call : code.Call) (found more : List ℕ) (fails : Bool) → drop at tokens ≡ call_then call rest → Some (offsets_at call.literal.span.start fails) ≡ option_map offset_of (call_in text (seen_call call)) → more ≡ found ++ offsets_at call.literal.span.start fails → faults_in text (map seen_token tokens) ≡ option_map (λ later. found ++ later) (faults_in text (map seen_token (drop at tokens))) → faults_in text (map seen_token tokens) ≡ option_map (λ later. more ++ later) (faults_in text (map seen_token rest))
-faults_step text tokens rest at call found more fails split told added inv =
-    let left = faults_in text (map seen_token rest) in
+pub faults_step : (whole : Option (List ℕ)) (s : Stat) (rest : Block) (found here more : List ℕ)
+    → Some here ≡ option_map offset_of (call_in s) → more ≡ found ++ here
+    → whole ≡ option_map (λ later. found ++ later) (faults_in (tree.more_stats s rest))
+    → whole ≡ option_map (λ later. more ++ later) (faults_in rest)
+faults_step whole s rest found here more told added inv =
+    let left = faults_in rest in
     inv
-    ∙ ap (λ l. option_map (λ later. found ++ later) (faults_in text (map seen_token l))) split
-    ∙ ap (option_map (λ later. found ++ later)) (call_by_call (call_in text (seen_call call)) (calls_in text (map seen_token rest)))
+    ∙ ap (option_map (λ later. found ++ later)) (call_by_call (call_in s) (calls_in rest))
     ∙ ap (λ o. option_map (λ later. found ++ later) (option_and_then (λ here. option_map (λ later. here ++ later) left) o)) (sym told)
-    ∙ option_map-append found (offsets_at call.literal.span.start fails) left
+    ∙ option_map-append found here left
     ∙ ap (λ f. option_map (λ later. f ++ later) left) (sym added)
 
--- fewer tokens than a call has are none
-pub faults_in-short : (text : List ℕ) (tokens : List Tok) → 0 < length tokens → length tokens < 6 → faults_in text tokens ≡ None
-faults_in-short text [] some few = absurd (omega arith)
-faults_in-short text (a ∷ []) some few = refl
-faults_in-short text (a ∷ b ∷ []) some few = refl
-faults_in-short text (a ∷ b ∷ c ∷ []) some few = refl
-faults_in-short text (a ∷ b ∷ c ∷ d ∷ []) some few = refl
-faults_in-short text (a ∷ b ∷ c ∷ d ∷ e ∷ []) some few = refl
-faults_in-short text (a ∷ b ∷ c ∷ d ∷ e ∷ f ∷ rest) some few = absurd (omega arith)
+-- nothing is reported where a statement is no such call
+pub faults_none : (s : Stat) (rest : Block) → None ≡ option_map offset_of (call_in s) → faults_in (tree.more_stats s rest) ≡ None
+faults_none s rest told = call_by_call (call_in s) (calls_in rest) ∙ ap (λ o. option_and_then (λ here. option_map (λ later. here ++ later) (faults_in rest)) o) (sym told)
+
+-- nothing stands before what was found
+nothing_before : (o : Option (List ℕ)) → o ≡ option_map (λ later. [] ++ later) o
+nothing_before None = refl
+nothing_before (Some l) = refl
+
+pub from_nothing : (found : List ℕ) (o : Option (List ℕ)) → found ≡ [] → o ≡ option_map (λ later. found ++ later) o
+from_nothing found o e = nothing_before o ∙ ap (λ f. option_map (λ later. f ++ later) o) (sym e)
+
+-- nothing is left
+pub with_nothing : (found : List ℕ) (xs : List code.Stat.Stat) (i : ℕ) → length xs ≤ i
+    → option_map (λ later. found ++ later) (faults_in (view_stats (drop i xs))) ≡ Some found
+with_nothing found xs i h =
+    ap (λ l. option_map (λ later. found ++ later) (faults_in (view_stats l))) (drop_all i xs h) ∙ ap Some (append-nil found)

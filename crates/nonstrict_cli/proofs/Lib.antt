@@ -6,6 +6,7 @@ pub mod Chunks
 pub mod Ends
 pub mod Cuts
 pub mod Calls
+pub mod Trees
 pub mod Reported
 pub mod RefusedLines
 pub mod ReportedLines

@@ -14,7 +14,7 @@ use Rattle.nonstrict_cli.specs.Form.{offsets_of, offsets_at}
 
 -- a call with another literal
 abbrev with_literal : Written → Literal → Written
-with_literal w l = record { literal = l; call = w.call; callee = w.callee; library = w.library; argument = w.argument }
+with_literal w l = record { literal = l; statement = w.statement; call = w.call; callee = w.callee; library = w.library; argument = w.argument }
 
 -- the span of the first of four expressions that is meant, or of one behind them
 abbrev first_of : {A : Type 0} → Bool → Bool → Bool → Bool → A → A → A → A → Option A → Option A

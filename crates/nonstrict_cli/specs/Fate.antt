@@ -2,14 +2,14 @@
 use Rattle.std.specs.Prelude.{ℕ, List, Option, None, Some, Result, Ok, Err}
 use Rattle.luau_tree.specs.declared.position.Pos.{Pos}
 use Rattle.luau_tree.specs.Position.{pos_at}
-use Rattle.luau_lex.specs.declared.token.LexError.{LexError}
-use Rattle.luau_lex.specs.Places.{fault_offset}
-use Rattle.luau_lex.specs.Tokens.{Tok, tokens_of}
+use Rattle.luau_tree.specs.Tree.{Block}
+use Rattle.luau_grammar.specs.declared.error.ParseError.{ParseError}
+use Rattle.luau_parse.specs.Texts.{tree_of}
 use Rattle.outside.specs.Contents.{File}
 use Rattle.rules_certain.specs.Calls.{Written}
 use Rattle.nonstrict_cli.specs.declared.reason.Reason.{Reason}
 use Rattle.nonstrict_cli.specs.declared.reason.Reason.TheVariants.{FormNotBuilt}
-use Rattle.nonstrict_cli.specs.Fault.{reason_of}
+use Rattle.nonstrict_cli.specs.Fault.{fault_offset, reason_of}
 use Rattle.nonstrict_cli.specs.Folder.{module_paths, refusal_of, source, text_behind_mark}
 use Rattle.nonstrict_cli.specs.Form.{calls_in}
 
@@ -28,17 +28,17 @@ abbrev pub fate_by_calls : List ℕ → Option (List Written) → Fate
 fate_by_calls text None = Refused first_place FormNotBuilt
 fate_by_calls text (Some calls) = Checked text calls
 
--- what becomes of a text by its tokens or its first fault
-abbrev pub fate_by_tokens : List ℕ → Result (List Tok) LexError → Fate
-fate_by_tokens text (Err fault) = Refused (pos_at text (fault_offset fault)) (reason_of fault)
-fate_by_tokens text (Ok tokens) = fate_by_calls text (calls_in text tokens)
+-- what becomes of a text by its tree or its first fault
+abbrev pub fate_by_tree : List ℕ → Result Block ParseError → Fate
+fate_by_tree text (Err fault) = Refused (pos_at text (fault_offset fault)) (reason_of fault)
+fate_by_tree text (Ok block) = fate_by_calls text (calls_in block)
 
 -- what becomes of a file by why it is refused for its size or its name, if it is, and else by its
 -- text
 abbrev pub fate_unless : Option Reason → List ℕ → Fate
 fate_unless (Some why) bytes = Refused first_place why
 fate_unless None bytes =
-    fate_by_tokens (text_behind_mark bytes) (tokens_of (text_behind_mark bytes))
+    fate_by_tree (text_behind_mark bytes) (tree_of (text_behind_mark bytes))
 
 -- what becomes of the file at a path, with these bytes, of a folder whose modules have these paths
 abbrev pub fate_of : List (List ℕ) → List ℕ → List ℕ → Fate

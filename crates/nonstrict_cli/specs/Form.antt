@@ -1,64 +1,88 @@
--- The built form: tokens that are calls of `math.abs`, each with one literal.
-use Rattle.std.specs.Prelude.{◌==◌, ◌&&◌, ◌-◌, ◌++◌, ℕ, Bool, true, false, not, List, [], ◌∷◌, Option, None, Some, drop, take, if◌then◌else◌, codes, option_map}
+-- The built form: modules whose statements are calls of `math.abs`, each with one literal.
+use Rattle.std.specs.Prelude.{◌&&◌, ◌++◌, ℕ, Bool, true, false, not, List, [], ◌∷◌, Option, None, Some, if◌then◌else◌, codes, option_map}
 use Rattle.std.specs.Option.{option_and_then}
-use Rattle.std.specs.List.{list_all}
 use Rattle.std.specs.Str.{bytes_eq}
-use Rattle.luau_lex.specs.declared.token.Kind.{Kind}
-use Rattle.luau_lex.specs.declared.token.Kind.TheVariants.{Numeral, Quoted, Long, Word}
-use Rattle.luau_lex.specs.Tokens.{Tok}
-use Rattle.luau_lex.specs.Values.{string_value}
+use Rattle.luau_tree.specs.declared.position.Span.{Span}
+use Rattle.luau_tree.specs.Tree.{Block, Stat, StatKind, Expr, ExprKind, Exprs}
+use Rattle.luau_tree.specs.Tree as tree
+use Rattle.luau_tree.specs.Nodes.{expr_span}
 use Rattle.rules_certain.specs.Literal.{Literal, NilLiteral, TruthLiteral, NumberLiteral, StrLiteral, is_number}
 use Rattle.rules_certain.specs.Calls.{Written}
 
--- whether a token is spelled so
-abbrev pub is_spelled : List ℕ → Tok → Bool
-is_spelled bytes t = bytes_eq t.bytes bytes
+-- the literal that an expression is, if it is one
+abbrev literal_by : ExprKind → Option Literal
+literal_by tree.NilExpr = Some NilLiteral
+literal_by tree.TrueExpr = Some (TruthLiteral true)
+literal_by tree.FalseExpr = Some (TruthLiteral false)
+literal_by (tree.NumberExpr text) = Some (NumberLiteral text)
+literal_by (tree.StrExpr bytes) = Some (StrLiteral bytes)
+literal_by _ = None
 
--- whether a token begins on the line on which one before it ends: no line feed stands between
-abbrev pub is_on_line_of : List ℕ → Tok → Tok → Bool
-is_on_line_of text first second = list_all (λ b. not (b == 10)) (take (second.span.start - first.span.end) (drop first.span.end text))
+abbrev pub literal_in : Expr → Option Literal
+literal_in (tree.the_expr id span kind) = literal_by kind
 
--- the literal that a token of this kind and spelling is, if it is one
-abbrev pub literal_in : Kind → List ℕ → Option Literal
-literal_in Numeral bytes = Some (NumberLiteral bytes)
-literal_in Quoted bytes = Some (StrLiteral (string_value Quoted bytes))
-literal_in Long bytes = Some (StrLiteral (string_value Long bytes))
-literal_in Word bytes = if bytes_eq bytes (codes "nil") then Some NilLiteral else if bytes_eq bytes (codes "true") then Some (TruthLiteral true) else if bytes_eq bytes (codes "false") then Some (TruthLiteral false) else None
-literal_in other bytes = None
+-- whether an expression is this name
+abbrev is_name_by : List ℕ → ExprKind → Bool
+is_name_by name (tree.NameExpr given) = bytes_eq given name
+is_name_by name _ = false
 
--- a call as tokens: `math`, `.`, `abs`, on the line where that ends `(`, then something and `)`
-pub record Call : Type 0 where
-  pub library : Tok
-  pub dot : Tok
-  pub name : Tok
-  pub paren : Tok
-  pub literal : Tok
-  pub close : Tok
+abbrev pub is_name : List ℕ → Expr → Bool
+is_name name (tree.the_expr id span kind) = is_name_by name kind
 
--- whether these tokens call `math.abs`, whatever the argument is
-abbrev pub is_call : List ℕ → Call → Bool
-is_call text c = is_spelled (codes "math") c.library && is_spelled (codes ".") c.dot && is_spelled (codes "abs") c.name && is_spelled (codes "(") c.paren && is_on_line_of text c.name c.paren && is_spelled (codes ")") c.close
+-- where the library stands in `math.abs`, if an expression is that
+abbrev library_by : ExprKind → Option Span
+library_by (tree.Index base name) =
+    if is_name (codes "math") base && bytes_eq name (codes "abs") then Some (expr_span base) else None
+library_by _ = None
 
--- the call that these tokens are, with a literal
-abbrev pub written_as : Call → Literal → Written
-written_as c l = record {
-  literal = l;
-  call = record { start = c.library.span.start; end = c.close.span.end };
-  callee = record { start = c.library.span.start; end = c.name.span.end };
-  library = c.library.span;
-  argument = c.literal.span;
-}
+abbrev pub library_in : Expr → Option Span
+library_in (tree.the_expr id span kind) = library_by kind
 
--- the call of `math.abs` with one literal that these tokens are, if they are one
-abbrev pub call_in : List ℕ → Call → Option Written
-call_in text c = if is_call text c then option_map (written_as c) (literal_in c.literal.kind c.literal.bytes) else None
+-- the one argument of a call
+abbrev pub sole : Exprs → Option Expr
+sole (tree.more_exprs e tree.no_exprs) = Some e
+sole _ = None
 
--- the calls of `math.abs` with one literal each that the tokens of a text are, if they are that
-abbrev pub calls_in : List ℕ → List Tok → Option (List Written)
-calls_in text [] = Some []
-calls_in text (library ∷ dot ∷ name ∷ paren ∷ literal ∷ close ∷ rest) =
-    option_and_then (λ call. option_map (λ later. call ∷ later) (calls_in text rest)) (call_in text (record { library = library; dot = dot; name = name; paren = paren; literal = literal; close = close }))
-calls_in text other = None
+-- a call with a literal, by where its parts stand
+abbrev pub written_at : (statement call callee library argument : Span) → Literal → Written
+written_at statement call callee library argument literal =
+    record {
+      literal = literal;
+      statement = statement;
+      call = call;
+      callee = callee;
+      library = library;
+      argument = argument;
+    }
+
+-- the call of `math.abs` with one literal that a call with this callee and these arguments is, if it is one
+abbrev pub called : (statement call : Span) → Expr → Exprs → Option Written
+called statement call callee args =
+    option_and_then (λ library. option_and_then (λ e.
+    option_map (written_at statement call (expr_span callee) library (expr_span e)) (literal_in e))
+    (sole args)) (library_in callee)
+
+-- the call of `math.abs` with one literal that an expression is, if it is one
+abbrev call_by : (statement call : Span) → ExprKind → Option Written
+call_by statement call (tree.Call callee args) = called statement call callee args
+call_by statement call _ = None
+
+abbrev pub call_at : (statement : Span) → Expr → Option Written
+call_at statement (tree.the_expr id span kind) = call_by statement span kind
+
+-- the call of `math.abs` with one literal that a statement is, if it is one
+abbrev call_in_kind : (statement : Span) → StatKind → Option Written
+call_in_kind statement (tree.CallStat call) = call_at statement call
+call_in_kind statement _ = None
+
+abbrev pub call_in : Stat → Option Written
+call_in (tree.the_stat span kind) = call_in_kind span kind
+
+-- the calls of `math.abs` with one literal each that a module is, if it is that
+abbrev pub calls_in : Block → Option (List Written)
+calls_in tree.no_stats = Some []
+calls_in (tree.more_stats s rest) =
+    option_and_then (λ call. option_map (λ later. call ∷ later) (calls_in rest)) (call_in s)
 
 -- where a literal at this offset is reported, if it is
 abbrev pub offsets_at : ℕ → Bool → List ℕ
@@ -74,6 +98,6 @@ abbrev pub offsets_of : List Written → List ℕ
 offsets_of [] = []
 offsets_of (call ∷ calls) = offset_of call ++ offsets_of calls
 
--- where the calls of a text are reported, if its tokens are calls of `math.abs` with one literal each
-abbrev pub faults_in : List ℕ → List Tok → Option (List ℕ)
-faults_in text tokens = option_map offsets_of (calls_in text tokens)
+-- where the calls of a module are reported, if it is calls of `math.abs` with one literal each
+abbrev pub faults_in : Block → Option (List ℕ)
+faults_in block = option_map offsets_of (calls_in block)

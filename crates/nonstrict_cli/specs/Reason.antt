@@ -1,7 +1,7 @@
 -- Why a file isn't checked.
 use Rattle.std.specs.Prelude.{ℕ, List, codes}
 use Rattle.nonstrict_cli.specs.declared.reason.Reason.{Reason}
-use Rattle.nonstrict_cli.specs.declared.reason.Reason.TheVariants.{FileTooLarge, DirectoryModule, RepeatedName, UnfinishedString, UnfinishedComment, BadEscape, BadNumeral, StrayByte, DoubleBrace, FormNotBuilt}
+use Rattle.nonstrict_cli.specs.declared.reason.Reason.TheVariants.{FileTooLarge, DirectoryModule, RepeatedName, UnfinishedString, UnfinishedComment, BadEscape, BadNumeral, StrayByte, DoubleBrace, UnexpectedToken, UnexpectedEnd, AmbiguousCall, Nesting, FormNotBuilt}
 
 -- a reason as it is told
 abbrev pub reason_text : Reason → List ℕ
@@ -14,4 +14,8 @@ reason_text BadEscape = codes "bad escape"
 reason_text BadNumeral = codes "bad numeral"
 reason_text StrayByte = codes "stray byte"
 reason_text DoubleBrace = codes "interpolation brace"
+reason_text UnexpectedToken = codes "unexpected token"
+reason_text UnexpectedEnd = codes "unexpected end"
+reason_text AmbiguousCall = codes "ambiguous call"
+reason_text Nesting = codes "nesting"
 reason_text FormNotBuilt = codes "form not built"

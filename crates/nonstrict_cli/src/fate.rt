@@ -1,20 +1,23 @@
 //! What becomes of one file.
-ghost use Rattle.std.specs.Prelude.{◌≡◌, ◌≤◌, IfNone, IfOk, length, map};
+ghost use Rattle.std.specs.Prelude.{◌≡◌, ◌≤◌, IfNone, IfOk, Ok, length, map};
 ghost use Rattle.std.specs.List.Sorted.{IsSorted};
 ghost use Rattle.luau_tree.specs.Position.{pos_at};
 ghost use Rattle.luau_tree.specs.Sorted.{bytes_cmp};
-ghost use Rattle.luau_lex.specs.Places.{fault_offset};
-ghost use Rattle.luau_lex.specs.Tokens.{seen_token, tokens_of};
-ghost use Rattle.nonstrict_cli.specs.Fate.{fate_by_tokens, fate_of};
+ghost use Rattle.luau_tree.specs.View.{view_block};
+ghost use Rattle.luau_parse.specs.Texts.{tree_of};
+ghost use Rattle.luau_lex.specs.Places as lexical;
+ghost use Rattle.nonstrict_cli.specs.Fate.{fate_by_tree, fate_of};
 ghost use Rattle.nonstrict_cli.specs.FateFound.{found_of};
-ghost use Rattle.nonstrict_cli.specs.Fault.{reason_of};
+ghost use Rattle.nonstrict_cli.specs.Fault.{fault_offset, lexical_reason_of, reason_of};
 ghost use Rattle.nonstrict_cli.specs.Folder.{refusal_of, text_behind_mark};
 
 use crate::form::read_faults;
 use crate::paths::{has_twin, is_init};
 use crate::reason::Reason;
-use luau_lex::{LexError, Token, lex};
-use luau_tree::{Bytes, Cursor, List, MAX_TEXT, Pos, pos_of};
+use luau_grammar::ParseError;
+use luau_lex::LexError;
+use luau_parse::parse;
+use luau_tree::{Block, Bytes, Cursor, List, MAX_TEXT, Pos};
 use std::alloc::{AllocError, Global};
 
 /// What becomes of a file.
@@ -54,13 +57,13 @@ fn places_of(alloc: Global, text: &[u8], offsets: &[u32]) -> Result<Vec<Pos>, Al
     Ok(places)
 }
 
-/// What becomes of a text by its tokens.
-fn fate_by_tokens(alloc: Global, text: &[u8], tokens: &[Token<'_>]) -> Result<Fate, AllocError>
+/// What becomes of a text by its tree.
+fn fate_by_tree(alloc: Global, text: &[u8], block: &Block) -> Result<Fate, AllocError>
     requires { length text.now ≤ MAX_TEXT }
     ensures { IfOk result (λ fate.
-        fate ≡ found_of (fate_by_tokens text.now (Ok (map seen_token tokens.now)))) }
+        fate ≡ found_of (fate_by_tree text.now (Ok (view_block block.now)))) }
 {
-    match read_faults(alloc, text, tokens)? {
+    match read_faults(alloc, block)? {
         None => Ok(Fate::Refused(FIRST, Reason::FormNotBuilt)),
         Some(offsets) => {
             let places = places_of(alloc, text, offsets.as_slice())?;
@@ -70,8 +73,8 @@ fn fate_by_tokens(alloc: Global, text: &[u8], tokens: &[Token<'_>]) -> Result<Fa
 }
 
 /// The offset of a fault of the tokens.
-fn offset_of(fault: &LexError) -> u32
-    ensures { result ≡ fault_offset fault.now }
+fn lexical_offset_of(fault: &LexError) -> u32
+    ensures { result ≡ lexical.fault_offset fault.now }
 {
     match fault {
         LexError::UnfinishedString(at)
@@ -84,9 +87,23 @@ fn offset_of(fault: &LexError) -> u32
     }
 }
 
-/// Why a file with the fault is refused.
-fn reason_of(fault: &LexError) -> Reason
-    ensures { result ≡ reason_of fault.now }
+/// The offset of a fault.
+fn offset_of(fault: &ParseError) -> u32
+    ensures { result ≡ fault_offset fault.now }
+{
+    match fault {
+        ParseError::Lex(fault) => lexical_offset_of(fault),
+        ParseError::Unexpected(at)
+        | ParseError::UnexpectedEnd(at)
+        | ParseError::AmbiguousCall(at)
+        | ParseError::Nesting(at) => *at,
+        ParseError::NoMemory => 0,
+    }
+}
+
+/// Why a file with the fault of the tokens is refused.
+fn lexical_reason_of(fault: &LexError) -> Reason
+    ensures { result ≡ lexical_reason_of fault.now }
 {
     match fault {
         LexError::UnfinishedString(_) => Reason::UnfinishedString,
@@ -99,16 +116,30 @@ fn reason_of(fault: &LexError) -> Reason
     }
 }
 
+/// Why a file with the fault is refused.
+fn reason_of(fault: &ParseError) -> Reason
+    ensures { result ≡ reason_of fault.now }
+{
+    match fault {
+        ParseError::Lex(fault) => lexical_reason_of(fault),
+        ParseError::Unexpected(_) => Reason::UnexpectedToken,
+        ParseError::UnexpectedEnd(_) => Reason::UnexpectedEnd,
+        ParseError::AmbiguousCall(_) => Reason::AmbiguousCall,
+        ParseError::Nesting(_) => Reason::Nesting,
+        ParseError::NoMemory => Reason::FormNotBuilt,
+    }
+}
+
 /// What becomes of a text.
 fn fate_of_text(alloc: Global, text: &[u8]) -> Result<Fate, AllocError>
     requires { length text.now ≤ MAX_TEXT }
-    ensures { IfOk result (λ fate. fate ≡ found_of (fate_by_tokens text.now (tokens_of text.now))) }
+    ensures { IfOk result (λ fate. fate ≡ found_of (fate_by_tree text.now (tree_of text.now))) }
 {
-    match lex(alloc, text) {
-        Ok(tokens) => fate_by_tokens(alloc, text, tokens.as_slice()),
-        Err(LexError::NoMemory) => Err(AllocError),
+    match parse(alloc, text) {
+        Ok(module) => fate_by_tree(alloc, text, &module.block),
+        Err(ParseError::NoMemory) => Err(AllocError),
         Err(fault) => {
-            let place = pos_of(text, offset_of(&fault));
+            let place = place_in(text, &mut Cursor::new(text), offset_of(&fault));
             Ok(Fate::Refused(place, reason_of(&fault)))
         }
     }

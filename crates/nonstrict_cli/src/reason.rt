@@ -22,7 +22,15 @@ pub enum Reason {
     StrayByte,
     /// Two braces stand directly behind one another in an interpolated string.
     DoubleBrace,
-    /// Its tokens are not of the form that is built.
+    /// A token goes on with nothing that stands before it.
+    UnexpectedToken,
+    /// The text ends too early.
+    UnexpectedEnd,
+    /// Arguments would begin on a later line than the one on which what they stand behind ends.
+    AmbiguousCall,
+    /// A token stands at a level above 200.
+    Nesting,
+    /// It is not of the form that is built.
     FormNotBuilt,
 }
 
@@ -41,6 +49,10 @@ impl Reason {
             Reason::BadNumeral => "bad numeral",
             Reason::StrayByte => "stray byte",
             Reason::DoubleBrace => "interpolation brace",
+            Reason::UnexpectedToken => "unexpected token",
+            Reason::UnexpectedEnd => "unexpected end",
+            Reason::AmbiguousCall => "ambiguous call",
+            Reason::Nesting => "nesting",
             Reason::FormNotBuilt => "form not built",
         }
     }

@@ -9,9 +9,11 @@ use Rattle.luau_run.specs.ReadModule.{Use, UseBuiltin, UseLibrary, ReadModule}
 use Rattle.luau_run.specs.Program.{Program}
 use Rattle.rules_certain.specs.Literal.{Literal, kind_of}
 
--- a call of `math.abs` as it is written: its literal, and where it, `math.abs`, `math` and the literal stand
+-- a call of `math.abs` as it is written: its literal, and where its statement, it, `math.abs`, `math` and the literal
+-- stand
 pub record Written : Type 0 where
   pub literal : Literal
+  pub statement : Span
   pub call : Span
   pub callee : Span
   pub library : Span
@@ -19,7 +21,7 @@ pub record Written : Type 0 where
 
 -- the statement that such a call is, with numbers from `first` on
 abbrev pub stat_of : (first : ℕ) → Written → Stat
-stat_of first w = the_stat w.call (CallStat (the_expr first w.call (Call
+stat_of first w = the_stat w.statement (CallStat (the_expr first w.call (Call
     (the_expr (suc first) w.callee (Index (the_expr (suc (suc first)) w.library (NameExpr (codes "math"))) (codes "abs")))
     (more_exprs (the_expr (suc (suc (suc first))) w.argument (kind_of w.literal)) no_exprs))))
 

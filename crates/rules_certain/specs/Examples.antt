@@ -13,7 +13,15 @@ use Rattle.rules_certain.specs.Reports.{argument_of, reports_of}
 
 -- a call with a literal, wherever it stands
 abbrev pub written : Literal → Written
-written literal = record { literal = literal; call = somewhere; callee = somewhere; library = somewhere; argument = somewhere }
+written literal =
+    record {
+      literal = literal;
+      statement = somewhere;
+      call = somewhere;
+      callee = somewhere;
+      library = somewhere;
+      argument = somewhere;
+    }
 
 -- the module of some literals' calls, as the only one of a program
 abbrev pub modules_for : List Literal → List (List Written)
