@@ -30,7 +30,8 @@ parsed=$(seconds 2 "$program" "$work/modules")
 cut=$(seconds 2 "$program" "$work/tokens")
 awk -v a="$parsed" -v b="$cut" 'BEGIN { printf "64 MiB of modules: %ss, their tokens alone %ss, ratio %.1f\n", a, b, a / b }'
 if luac=$(command -v luac5.4 || command -v luac); then
-    theirs=$(seconds 0 "$luac" -p "$work"/modules/*.luau)
+    # One file a process: it keeps all that it is given.
+    theirs=$(seconds 0 sh -c 'for f; do "$0" -p "$f" || exit 1; done' "$luac" "$work"/modules/*.luau)
     awk -v a="$parsed" -v b="$theirs" 'BEGIN { printf "luac -p: %ss, ratio %.1f\n", b, a / b }'
 else
     echo "luac is not installed"

@@ -81,8 +81,19 @@ fn breaks_off(
     Ok(ended == Status::WriteFault && Some(sink.written()) == line.get(..after))
 }
 
+/// Whether a folder with this text alone ends so, and writes nothing or this of it at a place.
+fn tells(alloc: Global, text: &str, ends: Status, place: &str, what: &str) -> Result<bool, Fail> {
+    let line = if what.is_empty() {
+        String::new(alloc)
+    } else {
+        format!(in alloc; "a.luau:{place}: {what}\n")?
+    };
+    let root = root(alloc, &[("a.luau", text.as_bytes())])?;
+    gives(alloc, "d;", root, &[], ends, line.as_str())
+}
+
 #[test]
-fn a_text_gives_its_lines(rt: HostRuntime) -> Result<(), Fail> {
+fn calls_are_checked(rt: HostRuntime) -> Result<(), Fail> {
     let alloc = rt.alloc();
     for (text, ends, place, what) in [
         ("math.abs(\"hi\")", Status::Reports, "1:10", FAILS),
@@ -121,122 +132,58 @@ fn a_text_gives_its_lines(rt: HostRuntime) -> Result<(), Fail> {
         ("math.abs(1);", Status::Clean, "", ""),
         ("math.abs\"hi\"", Status::Reports, "1:9", FAILS),
         ("math.abs\"hi\";", Status::Reports, "1:9", FAILS),
-        ("local x", Status::Refused, "1:1", FORM),
-        ("math.abs()", Status::Refused, "1:1", FORM),
-        ("math.abs(nilx)", Status::Refused, "1:1", FORM),
-        ("math.abs(-1)", Status::Refused, "1:1", FORM),
-        ("math.abs(1, 2)", Status::Refused, "1:1", FORM),
-        ("math.abs(`a`)", Status::Refused, "1:1", FORM),
-        ("math.abs{}", Status::Refused, "1:1", FORM),
-        ("math.ab(1)", Status::Refused, "1:1", FORM),
-        ("Math.abs(1)", Status::Refused, "1:1", FORM),
-        ("math:abs(1)", Status::Refused, "1:1", FORM),
-        (
-            "math.abs\n(1)",
-            Status::Refused,
-            "2:1",
-            "refused: ambiguous call",
-        ),
-        (
-            "math.abs --[[\n]] (1)",
-            Status::Refused,
-            "2:4",
-            "refused: ambiguous call",
-        ),
-        ("f\n(x)", Status::Refused, "2:1", "refused: ambiguous call"),
-        (
-            "math.abs(1",
-            Status::Refused,
-            "1:11",
-            "refused: unexpected end",
-        ),
-        (
-            "math.abs(1) x",
-            Status::Refused,
-            "1:14",
-            "refused: unexpected end",
-        ),
-        (
-            "local x = (",
-            Status::Refused,
-            "1:12",
-            "refused: unexpected end",
-        ),
-        (
-            "if x then",
-            Status::Refused,
-            "1:10",
-            "refused: unexpected end",
-        ),
-        ("x y", Status::Refused, "1:3", "refused: unexpected token"),
-        (
-            "x = = 1",
-            Status::Refused,
-            "1:5",
-            "refused: unexpected token",
-        ),
-        (
-            "return 1 2",
-            Status::Refused,
-            "1:10",
-            "refused: unexpected token",
-        ),
-        (
-            "math.abs(\"x",
-            Status::Refused,
-            "1:10",
-            "refused: unfinished string",
-        ),
-        (
-            "math.abs(\"a\nb\")",
-            Status::Refused,
-            "1:10",
-            "refused: unfinished string",
-        ),
-        (
-            "local s = [[a",
-            Status::Refused,
-            "1:11",
-            "refused: unfinished string",
-        ),
-        (
-            "\n --[[",
-            Status::Refused,
-            "2:2",
-            "refused: unfinished comment",
-        ),
-        (
-            "math.abs(\"\\xZ1\")",
-            Status::Refused,
-            "1:11",
-            "refused: bad escape",
-        ),
-        (
-            "math.abs(1x)",
-            Status::Refused,
-            "1:10",
-            "refused: bad numeral",
-        ),
-        (
-            "\u{feff}\u{feff}",
-            Status::Refused,
-            "1:1",
-            "refused: stray byte",
-        ),
-        (
-            "`{{`",
-            Status::Refused,
-            "1:2",
-            "refused: interpolation brace",
-        ),
     ] {
-        let line = if what.is_empty() {
-            String::new(alloc)
-        } else {
-            format!(in alloc; "a.luau:{place}: {what}\n")?
-        };
-        let root = root(alloc, &[("a.luau", text.as_bytes())])?;
-        let right = gives(alloc, "d;", root, &[], ends, line.as_str())?;
+        let right = tells(alloc, text, ends, place, what)?;
+        assert!(rt; right, "{text:?}");
+    }
+    Ok(())
+}
+
+#[test]
+fn other_modules_are_refused(rt: HostRuntime) -> Result<(), Fail> {
+    let alloc = rt.alloc();
+    for text in [
+        "local x",
+        "math.abs()",
+        "math.abs(nilx)",
+        "math.abs(-1)",
+        "math.abs(1, 2)",
+        "math.abs(`a`)",
+        "math.abs{}",
+        "math.ab(1)",
+        "Math.abs(1)",
+        "math:abs(1)",
+    ] {
+        let right = tells(alloc, text, Status::Refused, "1:1", FORM)?;
+        assert!(rt; right, "{text:?}");
+    }
+    Ok(())
+}
+
+#[test]
+fn a_fault_is_told_at_its_place(rt: HostRuntime) -> Result<(), Fail> {
+    let alloc = rt.alloc();
+    for (text, place, what) in [
+        ("math.abs\n(1)", "2:1", "refused: ambiguous call"),
+        ("math.abs --[[\n]] (1)", "2:4", "refused: ambiguous call"),
+        ("f\n(x)", "2:1", "refused: ambiguous call"),
+        ("math.abs(1", "1:11", "refused: unexpected end"),
+        ("math.abs(1) x", "1:14", "refused: unexpected end"),
+        ("local x = (", "1:12", "refused: unexpected end"),
+        ("if x then", "1:10", "refused: unexpected end"),
+        ("x y", "1:3", "refused: unexpected token"),
+        ("x = = 1", "1:5", "refused: unexpected token"),
+        ("return 1 2", "1:10", "refused: unexpected token"),
+        ("math.abs(\"x", "1:10", "refused: unfinished string"),
+        ("math.abs(\"a\nb\")", "1:10", "refused: unfinished string"),
+        ("local s = [[a", "1:11", "refused: unfinished string"),
+        ("\n --[[", "2:2", "refused: unfinished comment"),
+        ("math.abs(\"\\xZ1\")", "1:11", "refused: bad escape"),
+        ("math.abs(1x)", "1:10", "refused: bad numeral"),
+        ("\u{feff}\u{feff}", "1:1", "refused: stray byte"),
+        ("`{{`", "1:2", "refused: interpolation brace"),
+    ] {
+        let right = tells(alloc, text, Status::Refused, place, what)?;
         assert!(rt; right, "{text:?}");
     }
     Ok(())
