@@ -20,11 +20,26 @@ use nonstrict_cli::{Status, nonstrict};
 use std::io::ErrorKind;
 use std::process::ExitCode;
 use std::rt::{Env, Files};
-use std::{env, io};
+use std::thread::Builder;
+use std::{env, io, thread};
 use stdout_sink::StdoutSink;
 
+/// The stack that a command has, in bytes. A syntax tree is given up node by node within one another, and a chain of calls
+/// or operators in a text can have some 20,000 nodes, for which 12 MiB are enough.
+const STACK: usize = 64 << 20;
+
 fn main(rt: HostRuntime) -> ExitCode {
-    end(&rt, run(&rt))
+    let status = thread::scope(thread::scope_env(), &rt, |scope| {
+        let started = Builder::new()
+            .stack_size(STACK)
+            .spawn_scoped(scope, || run(&rt));
+        match started {
+            Ok(handle) => handle.join(&rt),
+            // Without another thread the command has the stack of this one.
+            Err(_) => run(&rt),
+        }
+    });
+    end(&rt, status)
 }
 
 /// Runs the command that the program's words are.
