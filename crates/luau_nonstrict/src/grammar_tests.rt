@@ -23,6 +23,31 @@ fn is_module(alloc: Global, text: &str) -> Result<bool, Fail> {
     refuses(alloc, text, "a.luau:1:1: refused: form not built\n")
 }
 
+/// A form of text in which a phrase stands in itself: what comes before, what opens it, what stands innermost, what closes it.
+type Nested = (&'static str, &'static str, &'static str, &'static str);
+
+/// A text of a form in which so many phrases stand in one another.
+fn nested(alloc: Global, form: Nested, count: usize) -> Result<String, Fail> {
+    let (before, open, inside, close) = form;
+    let mut text = String::from_str(alloc, before)?;
+    for _ in 0..count {
+        text.push_str(open)?;
+    }
+    text.push_str(inside)?;
+    for _ in 0..count {
+        text.push_str(close)?;
+    }
+    Ok(text)
+}
+
+/// Whether so many phrases of a form may stand in one another, and with one more the token in this column stands too deep.
+fn nests(alloc: Global, form: Nested, most: usize, column: usize) -> Result<bool, Fail> {
+    let whole = nested(alloc, form, most)?;
+    let deeper = nested(alloc, form, most.saturating_add(1))?;
+    let line = format!(in alloc; "a.luau:1:{column}: refused: nesting\n")?;
+    Ok(is_module(alloc, whole.as_str())? && refuses(alloc, deeper.as_str(), line.as_str())?)
+}
+
 #[test]
 fn statements_are_read(rt: HostRuntime) -> Result<(), Fail> {
     let alloc = rt.alloc();
@@ -145,6 +170,51 @@ fn a_module_ends_at_each_of_its_statements(rt: HostRuntime) -> Result<(), Fail> 
         text.push_str(statement)?;
         assert!(rt; is_module(alloc, text.as_str())?, "{statement:?}");
         text.push_str("\n")?;
+    }
+    Ok(())
+}
+
+#[test]
+fn expressions_stand_at_two_hundred_levels(rt: HostRuntime) -> Result<(), Fail> {
+    let alloc = rt.alloc();
+    for (before, open, inside, close, most, column) in [
+        ("x = ", "(", "1", ")", 198, 204),
+        ("x = ", "{", "1", "}", 198, 204),
+        ("x = ", "f(", "1", ")", 99, 205),
+        ("x = ", "- ", "1", "", 198, 403),
+        ("x = ", "a + ", "1", "", 198, 801),
+        ("x = a", ".b", "", "", 198, 403),
+        ("x = a", "[1]", "", "", 197, 598),
+        ("x = a", ":m()", "", "", 198, 799),
+        ("x = f", "()", "", "", 198, 403),
+        ("x = ", "function() return ", "1", " end", 99, 1798),
+        ("x = ", "`{", "1", "}`", 198, 403),
+        ("x = ", "if a then b else ", "1", "", 198, 3374),
+    ] {
+        let right = nests(alloc, (before, open, inside, close), most, column)?;
+        assert!(rt; right, "{before}{open}");
+    }
+    Ok(())
+}
+
+#[test]
+fn statements_and_types_stand_at_two_hundred_levels(rt: HostRuntime) -> Result<(), Fail> {
+    let alloc = rt.alloc();
+    for (before, open, inside, close, most, column) in [
+        ("", "if a then ", "", " end", 199, 1994),
+        ("", "do ", "", " end", 200, 601),
+        ("", "repeat ", "", " until a", 199, 1408),
+        ("", "while a do ", "", " end", 199, 2196),
+        ("a", ".b", " = 1", "", 199, 401),
+        ("function a", ".b", "() end", "", 199, 410),
+        ("type T = ", "{", "T", "}", 198, 209),
+        ("type T = ", "(", "T", ")", 198, 209),
+        ("type T = ", "() -> ", "T", "", 198, 1204),
+        ("local x: ", "T<", "T", ">", 198, 408),
+        ("type T = U", "?", "", "", 199, 210),
+    ] {
+        let right = nests(alloc, (before, open, inside, close), most, column)?;
+        assert!(rt; right, "{before}{open}");
     }
     Ok(())
 }

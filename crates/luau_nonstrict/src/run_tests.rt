@@ -189,36 +189,6 @@ fn a_fault_is_told_at_its_place(rt: HostRuntime) -> Result<(), Fail> {
     Ok(())
 }
 
-/// `local x = 1`, the value in so many parentheses.
-fn in_parentheses(alloc: Global, count: usize) -> Result<Vec<u8>, Fail> {
-    let mut text = Vec::from_slice(alloc, b"local x = ")?;
-    for _ in 0..count {
-        text.push(b'(')?;
-    }
-    text.push(b'1')?;
-    for _ in 0..count {
-        text.push(b')')?;
-    }
-    Ok(text)
-}
-
-#[test]
-fn phrases_stand_at_two_hundred_levels(rt: HostRuntime) -> Result<(), Fail> {
-    let alloc = rt.alloc();
-    for (count, line) in [
-        (198, "a.luau:1:1: refused: form not built\n"),
-        (199, "a.luau:1:210: refused: nesting\n"),
-    ] {
-        let text = in_parentheses(alloc, count)?;
-        let root = root(alloc, &[("a.luau", text.as_slice())])?;
-        assert!(rt;
-            gives(alloc, "d;", root, &[], Status::Refused, line)?,
-            "{count}"
-        );
-    }
-    Ok(())
-}
-
 #[test]
 fn a_part_of_a_call_is_refused(rt: HostRuntime) -> Result<(), Fail> {
     let alloc = rt.alloc();

@@ -2,8 +2,10 @@ pub mod Captured
 pub mod Examples
 pub mod Finds
 pub mod Found
+pub mod InScope
 pub mod Laws
 pub mod Locals
 pub mod Names
 pub mod Refusals
 pub mod Samples
+pub mod Steps

@@ -1,15 +1,16 @@
 //! What an expression stands for, by the reading of its module.
-ghost use Rattle.std.specs.Prelude.{◌≡◌, map, slice_get};
-ghost use Rattle.std.specs.Option.{option_and_then, option_copied};
+ghost use Rattle.std.specs.Prelude.{◌≡◌, map};
+ghost use Rattle.std.specs.Option.{option_copied};
 ghost use Rattle.luau_scope.specs.Laws.{AscendFrom};
 ghost use Rattle.luau_scope.specs.Locals.{fixed_at, given_builtin, path_of, use_at};
+ghost use Rattle.std.specs.Option.{option_and_then};
+ghost use Rattle.std.specs.Prelude.{slice_get};
 
 use crate::reading::{Scoped, Use};
 use luau_tree::{Bytes, ExprId, LocalId};
 
 impl Scoped {
-    /// What an expression stands for: its entry among the uses, found by halving. None exactly where it has none, since it
-    /// is no name and no builtin's path. The uses stand in the order of the numbers of their expressions.
+    /// What an expression stands for; None where it is no name and no builtin's path.
     pub fn use_of(&self, at: ExprId) -> Option<&Use>
         requires { AscendFrom 0 (map (λ u. u.0.0) self.now.uses) }
         ensures { option_copied result ≡ use_at self.now.uses at }

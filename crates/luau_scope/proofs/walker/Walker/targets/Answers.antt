@@ -1,0 +1,18 @@
+use Rattle.std.proofs.Common.{sym, ap, ◌∙◌}
+use Rattle.luau_tree.specs.View.{view_exprs}
+use Rattle.luau_scope.specs.Steps.{after_targets, run}
+use Rattle.luau_scope.proofs.AfterLocals.{no_targets}
+use Rattle.luau_scope.proofs.Pushes.{before, pushed}
+use Rattle.luau_scope.proofs.Splits.{none_of}
+use Rattle.luau_scope.proofs.Visits.{targets_visit}
+use Rattle.luau_scope.proofs.walker.Walker.targets.Goals as goal
+
+pub returns-in_default : goal.returns-in_default
+returns-in_default c =
+    ap (run c.args.tasks.now) (sym (no_targets c.args.within c.args.earlier c.args.self.now))
+    ∙ ap (λ xs. run c.args.tasks.now (after_targets c.args.within c.args.earlier (view_exprs xs) c.args.self.now)) (sym (none_of c.args.targets.now c.in_default.len_below))
+
+pub returns : goal.returns
+returns c =
+    pushed c.push-2.result _ _ _ _ _ _ c.push-2.ensures.ok (before _ _ _ _ c.in_ok-push.ensures.ok
+    ∙ ap (run c.args.tasks.now) (sym (targets_visit c.args.within c.args.earlier c.args.targets.now c.first-item.result c.args.self.now c.in-len1-up.len_at_least c.first-item.is)))
