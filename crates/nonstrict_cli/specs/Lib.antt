@@ -1,5 +1,6 @@
 pub mod Command
 pub mod Folder
+pub mod Profile
 pub mod Reason
 pub mod Fault
 pub mod Form

@@ -1,7 +1,8 @@
 -- Why a file isn't checked.
 use Rattle.std.specs.Prelude.{ℕ, List, codes}
 use Rattle.nonstrict_cli.specs.declared.reason.Reason.{Reason}
-use Rattle.nonstrict_cli.specs.declared.reason.Reason.TheVariants.{FileTooLarge, DirectoryModule, RepeatedName, UnfinishedString, UnfinishedComment, BadEscape, BadNumeral, StrayByte, DoubleBrace, UnexpectedToken, UnexpectedEnd, AmbiguousCall, Nesting, FormNotBuilt}
+use Rattle.nonstrict_cli.specs.declared.reason.Reason.TheVariants.{FileTooLarge, DirectoryModule, RepeatedName, UnfinishedString, UnfinishedComment, BadEscape, BadNumeral, StrayByte, DoubleBrace, UnexpectedToken, UnexpectedEnd, AmbiguousCall, Nesting, Profile, FormNotBuilt}
+use Rattle.nonstrict_cli.specs.Profile.{profile_text}
 
 -- a reason as it is told
 abbrev pub reason_text : Reason → List ℕ
@@ -18,4 +19,5 @@ reason_text UnexpectedToken = codes "unexpected token"
 reason_text UnexpectedEnd = codes "unexpected end"
 reason_text AmbiguousCall = codes "ambiguous call"
 reason_text Nesting = codes "nesting"
+reason_text (Profile why) = profile_text why
 reason_text FormNotBuilt = codes "form not built"

@@ -6,7 +6,9 @@ ghost use Rattle.luau_tree.specs.Sorted.{bytes_cmp};
 ghost use Rattle.luau_tree.specs.View.{view_block};
 ghost use Rattle.luau_parse.specs.Texts.{tree_of};
 ghost use Rattle.luau_lex.specs.Places as lexical;
-ghost use Rattle.nonstrict_cli.specs.Fate.{fate_by_tree, fate_of};
+ghost use Rattle.nonstrict_cli.specs.Fate.{fate_by_calls, fate_by_tree, fate_of};
+ghost use Rattle.nonstrict_cli.specs.Form.{calls_in};
+ghost use Rattle.nonstrict_cli.specs.Profile.{builtin_paths};
 ghost use Rattle.nonstrict_cli.specs.FateFound.{found_of};
 ghost use Rattle.nonstrict_cli.specs.Fault.{fault_offset, lexical_reason_of, reason_of};
 ghost use Rattle.nonstrict_cli.specs.Folder.{refusal_of, text_behind_mark};
@@ -17,7 +19,8 @@ use crate::reason::Reason;
 use luau_grammar::ParseError;
 use luau_lex::LexError;
 use luau_parse::parse;
-use luau_tree::{Block, Bytes, Cursor, List, MAX_TEXT, Pos};
+use luau_scope::{ScopeError, resolve};
+use luau_tree::{Block, Bytes, Cursor, List, MAX_TEXT, Module, PathSet, Pos};
 use std::alloc::{AllocError, Global};
 
 /// What becomes of a file.
@@ -57,17 +60,41 @@ fn places_of(alloc: Global, text: &[u8], offsets: &[u32]) -> Result<Vec<Pos>, Al
     Ok(places)
 }
 
-/// What becomes of a text by its tree.
-fn fate_by_tree(alloc: Global, text: &[u8], block: &Block) -> Result<Fate, AllocError>
+/// What becomes of a text by the calls that its tree is, if it is of the built form.
+fn fate_by_calls(alloc: Global, text: &[u8], block: &Block) -> Result<Fate, AllocError>
     requires { length text.now ≤ MAX_TEXT }
     ensures { IfOk result (λ fate.
-        fate ≡ found_of (fate_by_tree text.now (Ok (view_block block.now)))) }
+        fate ≡ found_of (fate_by_calls text.now (calls_in (view_block block.now)))) }
 {
     match read_faults(alloc, block)? {
         None => Ok(Fate::Refused(FIRST, Reason::FormNotBuilt)),
         Some(offsets) => {
             let places = places_of(alloc, text, offsets.as_slice())?;
             Ok(Fate::Checked(List::of(places)))
+        }
+    }
+}
+
+/// The paths of the declared builtins.
+fn builtins(alloc: Global) -> Result<PathSet, AllocError>
+    ensures { IfOk result (λ names. names ≡ builtin_paths) }
+{
+    let path = Bytes::of(Vec::from_slice(alloc, b"math.abs")?);
+    Ok(PathSet::of(vec![in alloc; path]?))
+}
+
+/// What becomes of a text by its tree.
+fn fate_by_tree(alloc: Global, text: &[u8], module: Module) -> Result<Fate, AllocError>
+    requires { length text.now ≤ MAX_TEXT }
+    ensures { IfOk result (λ fate.
+        fate ≡ found_of (fate_by_tree text.now (Ok (view_block «module».block)))) }
+{
+    match resolve(alloc, module, &builtins(alloc)?) {
+        Ok(scoped) => fate_by_calls(alloc, text, &scoped.module.block),
+        Err(ScopeError::NoMemory) => Err(AllocError),
+        Err(ScopeError::Refused { why, at }) => {
+            let place = place_in(text, &mut Cursor::new(text), at.start);
+            Ok(Fate::Refused(place, Reason::Profile(why)))
         }
     }
 }
@@ -136,7 +163,7 @@ fn fate_of_text(alloc: Global, text: &[u8]) -> Result<Fate, AllocError>
     ensures { IfOk result (λ fate. fate ≡ found_of (fate_by_tree text.now (tree_of text.now))) }
 {
     match parse(alloc, text) {
-        Ok(module) => fate_by_tree(alloc, text, &module.block),
+        Ok(module) => fate_by_tree(alloc, text, module),
         Err(ParseError::NoMemory) => Err(AllocError),
         Err(fault) => {
             let place = place_in(text, &mut Cursor::new(text), offset_of(&fault));

@@ -1,5 +1,8 @@
 ghost use Rattle.std.specs.Prelude.{◌≡◌};
+ghost use Rattle.nonstrict_cli.specs.Profile.{profile_text};
 ghost use Rattle.nonstrict_cli.specs.Reason.{reason_text};
+
+use luau_scope::Refusal;
 
 /// Why a file isn't checked.
 #[derive(Clone, Copy, Debug, PartialEq, Eq)]
@@ -30,6 +33,8 @@ pub enum Reason {
     AmbiguousCall,
     /// A token stands at a level above 200.
     Nesting,
+    /// The profile refuses it.
+    Profile(Refusal),
     /// It is not of the form that is built.
     FormNotBuilt,
 }
@@ -53,7 +58,29 @@ impl Reason {
             Reason::UnexpectedEnd => "unexpected end",
             Reason::AmbiguousCall => "ambiguous call",
             Reason::Nesting => "nesting",
+            Reason::Profile(why) => profile_text(why),
             Reason::FormNotBuilt => "form not built",
         }
+    }
+}
+
+/// What the profile refuses a module for, as it is told.
+fn profile_text(why: Refusal) -> &'static str
+    ensures { result.now ≡ profile_text why }
+{
+    match why {
+        Refusal::Metatable => "metatable",
+        Refusal::Coroutine => "coroutine",
+        Refusal::Environment => "environment",
+        Refusal::DynamicRequire => "dynamic require",
+        Refusal::TypeFunction => "type function",
+        Refusal::GenericPack => "generic pack",
+        Refusal::AssignedBuiltin => "assigned builtin",
+        Refusal::RepeatedTarget => "repeated target",
+        Refusal::TooManyLocals => "too many locals",
+        Refusal::BreakOutsideLoop => "break outside loop",
+        Refusal::ContinueOutsideLoop => "continue outside loop",
+        Refusal::ContinuePastLocal => "continue past local",
+        Refusal::VarargOutside => "vararg outside",
     }
 }
