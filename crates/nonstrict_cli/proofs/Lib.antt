@@ -14,3 +14,4 @@ pub mod Members
 pub mod Telling
 pub mod Names
 pub mod Rests
+pub mod Builtins

@@ -5,6 +5,7 @@ use Rattle.luau_tree.specs.Position.{pos_at}
 use Rattle.luau_tree.specs.Tree.{Block}
 use Rattle.luau_grammar.specs.declared.error.ParseError.{ParseError}
 use Rattle.luau_parse.specs.Texts.{tree_of}
+use Rattle.builtin_table.specs.Standard.{standard_paths}
 use Rattle.luau_scope.specs.Refusals as profile
 use Rattle.outside.specs.Contents.{File}
 use Rattle.rules_certain.specs.Calls.{Written}
@@ -13,7 +14,6 @@ use Rattle.nonstrict_cli.specs.declared.reason.Reason.TheVariants.{FormNotBuilt,
 use Rattle.nonstrict_cli.specs.Fault.{fault_offset, reason_of}
 use Rattle.nonstrict_cli.specs.Folder.{module_paths, refusal_of, source, text_behind_mark}
 use Rattle.nonstrict_cli.specs.Form.{calls_in}
-use Rattle.nonstrict_cli.specs.Profile.{builtin_paths}
 
 -- what becomes of a file: it is refused at a place for a reason, or checked, as a text that is
 -- these calls
@@ -38,7 +38,7 @@ fate_by_profile text None block = fate_by_calls text (calls_in block)
 -- what becomes of a text by its tree or its first fault
 abbrev pub fate_by_tree : List ℕ → Result Block ParseError → Fate
 fate_by_tree text (Err fault) = Refused (pos_at text (fault_offset fault)) (reason_of fault)
-fate_by_tree text (Ok block) = fate_by_profile text (profile.refusal_of builtin_paths block) block
+fate_by_tree text (Ok block) = fate_by_profile text (profile.refusal_of standard_paths block) block
 
 -- what becomes of a file by why it is refused for its size or its name, if it is, and else by its
 -- text

@@ -1,5 +1,5 @@
--- The profile: what it refuses, as it is told, and the builtins by whose paths names are read.
-use Rattle.std.specs.Prelude.{ℕ, List, [], ◌∷◌, codes}
+-- What the profile refuses, as it is told.
+use Rattle.std.specs.Prelude.{ℕ, List, codes}
 use Rattle.luau_scope.specs.declared.refusal.Refusal.{Refusal}
 use Rattle.luau_scope.specs.declared.refusal.Refusal.TheVariants.{Metatable, Coroutine, Environment, DynamicRequire, TypeFunction, GenericPack, AssignedBuiltin, RepeatedTarget, TooManyLocals, BreakOutsideLoop, ContinueOutsideLoop, ContinuePastLocal, VarargOutside}
 
@@ -18,7 +18,3 @@ profile_text BreakOutsideLoop = codes "break outside loop"
 profile_text ContinueOutsideLoop = codes "continue outside loop"
 profile_text ContinuePastLocal = codes "continue past local"
 profile_text VarargOutside = codes "vararg outside"
-
--- the paths of the declared builtins: `math.abs` alone, so far
-abbrev pub builtin_paths : List (List ℕ)
-builtin_paths = codes "math.abs" ∷ []

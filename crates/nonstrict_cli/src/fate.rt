@@ -8,7 +8,7 @@ ghost use Rattle.luau_parse.specs.Texts.{tree_of};
 ghost use Rattle.luau_lex.specs.Places as lexical;
 ghost use Rattle.nonstrict_cli.specs.Fate.{fate_by_calls, fate_by_tree, fate_of};
 ghost use Rattle.nonstrict_cli.specs.Form.{calls_in};
-ghost use Rattle.nonstrict_cli.specs.Profile.{builtin_paths};
+ghost use Rattle.builtin_table.specs.Standard.{standard_paths};
 ghost use Rattle.nonstrict_cli.specs.FateFound.{found_of};
 ghost use Rattle.nonstrict_cli.specs.Fault.{fault_offset, lexical_reason_of, reason_of};
 ghost use Rattle.nonstrict_cli.specs.Folder.{refusal_of, text_behind_mark};
@@ -16,6 +16,7 @@ ghost use Rattle.nonstrict_cli.specs.Folder.{refusal_of, text_behind_mark};
 use crate::form::read_faults;
 use crate::paths::{has_twin, is_init};
 use crate::reason::Reason;
+use builtin_table::laws::paths_stand_in_order;
 use luau_grammar::ParseError;
 use luau_lex::LexError;
 use luau_parse::parse;
@@ -75,12 +76,17 @@ fn fate_by_calls(alloc: Global, text: &[u8], block: &Block) -> Result<Fate, Allo
     }
 }
 
-/// The paths of the declared builtins.
-fn builtins(alloc: Global) -> Result<PathSet, AllocError>
-    ensures { IfOk result (λ names. names ≡ builtin_paths) }
+/// The paths of the builtins of the standard table.
+fn builtin_paths(alloc: Global) -> Result<PathSet, AllocError>
+    ensures { IfOk result (λ names. names ≡ standard_paths) }
 {
-    let path = Bytes::of(Vec::from_slice(alloc, b"math.abs")?);
-    Ok(PathSet::of(vec![in alloc; path]?))
+    paths_stand_in_order();
+    let entries = builtin_table::paths();
+    let mut names = Vec::new(alloc);
+    for entry in entries {
+        names.push(Bytes::of(Vec::from_slice(alloc, entry.0)?))?;
+    }
+    Ok(PathSet::of(names))
 }
 
 /// What becomes of a text by its tree.
@@ -89,7 +95,7 @@ fn fate_by_tree(alloc: Global, text: &[u8], module: Module) -> Result<Fate, Allo
     ensures { IfOk result (λ fate.
         fate ≡ found_of (fate_by_tree text.now (Ok (view_block «module».block)))) }
 {
-    match resolve(alloc, module, &builtins(alloc)?) {
+    match resolve(alloc, module, &builtin_paths(alloc)?) {
         Ok(scoped) => fate_by_calls(alloc, text, &scoped.module.block),
         Err(ScopeError::NoMemory) => Err(AllocError),
         Err(ScopeError::Refused { why, at }) => {
