@@ -1,0 +1,16 @@
+use Rattle.std.proofs.Common.{◌≡◌, ◌+◌, ◌-◌, ◌≤◌, ◌++◌, length}
+use Rattle.std.specs.Prelude.{not}
+use Rattle.type_normal.specs.Free.{name_cmp}
+use Rattle.type_normal.specs.Members.{has_member}
+use Rattle.subtype_check.specs.Apart.{fresh_text, shortest, letters}
+use Rattle.subtype_check.proofs.samples.new_text.Given as goal
+
+abbrev pub invariant-loop-letters : goal.invariant-loop-letters
+invariant-loop-letters l = record {
+  written : l.letters.items ≡ letters (length l.letters.items);
+  near : length l.letters.items ≤ l.most + 1;
+  so_far : fresh_text (l.xs ++ l.ys) ≡ shortest (λ text. not (has_member name_cmp text (l.xs ++ l.ys))) (l.most + 1 - length l.letters.items) (length l.letters.items);
+}
+
+abbrev pub decreases-loop-letters : goal.decreases-loop-letters
+decreases-loop-letters l = l.most + 1 - length l.letters.items
