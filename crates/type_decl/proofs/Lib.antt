@@ -1,0 +1,3 @@
+mod Means
+mod Lookup
+mod Whole

@@ -1,0 +1,4 @@
+pub mod Signatures
+pub mod Parts
+pub mod Tables
+pub mod Runs
