@@ -1,5 +1,4 @@
-//! What the names of a module stand for, and what the profile refuses in it: the definitions, with what their values are
-//! called in code.
+//! What the names of a module stand for, and what the profile refuses in it.
 //!
 //! Contracts speak of what is found in a module in the order of its text (`specs/Found.antt`, `specs/Finds.antt`), of
 //! the locals and uses that come of it (`specs/Locals.antt`), and of the first refusal (`specs/Refusals.antt`).

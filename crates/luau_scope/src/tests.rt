@@ -3,7 +3,7 @@ use super::*;
 use luau_tree::exprs::name_expr;
 use luau_tree::parts::{bind_of, block_of};
 use luau_tree::stats::{local_stat, return_stat};
-use luau_tree::{Bytes, Expr, ExprId, FnId, List, LocalId, Module, PathSet, Span};
+use luau_tree::{Bytes, Expr, ExprId, List, LocalId, Module, PathSet, Span};
 use sqlite_items::Items;
 use std::alloc::Global;
 use std::test::Fail;
@@ -44,7 +44,7 @@ fn a_module_is_read_or_refused(rt: HostRuntime) -> Result<(), Fail> {
     let [local] = scoped.locals.as_slice() else {
         return Err("locals".into());
     };
-    assert!(rt; local.name.as_slice() == b"a" && local.given == Some(ExprId(0)));
+    assert!(rt; local.name == bytes(alloc, "a")? && local.given == Some(ExprId(0)));
     assert!(rt; !local.assigned && !local.captured && !local.loose && local.function.is_none());
     let [(first, print), (second, a)] = scoped.uses.as_slice() else {
         return Err("uses".into());
