@@ -3,3 +3,9 @@ pub mod PlaceFacts
 pub mod FoundPlaces
 pub mod FoundLive
 pub mod SeenPlaces
+pub mod PrintedFacts
+pub mod LinkedFacts
+pub mod KeptFacts
+pub mod SmallFacts
+pub mod ContextFacts
+pub mod FlatFacts

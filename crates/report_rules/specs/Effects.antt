@@ -234,6 +234,20 @@ abbrev mutual
   returns_maybe no_block = false
   returns_maybe (a_block body) = returns_block body
 
+-- whether an `if` stands in a statement, outside loops: behind it what is known is joined out of its branches
+abbrev mutual
+  pub branches : Stat → Bool
+  branches (the_stat span kind) = branches_in kind
+
+  pub branches_in : StatKind → Bool
+  branches_in (Do body) = branches_block body
+  branches_in (If arms last) = true
+  branches_in _ = false
+
+  pub branches_block : Block → Bool
+  branches_block no_stats = false
+  branches_block (more_stats s rest) = branches s || branches_block rest
+
 -- whether a `break` or `continue` of a loop around a statement stands in it
 abbrev mutual
   pub breaks : Stat → Bool

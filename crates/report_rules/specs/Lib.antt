@@ -11,5 +11,8 @@ pub mod Errors
 pub mod Statements
 pub mod Findings
 pub mod Reports
+pub mod Program
+pub mod Messages
+pub mod Printed
 pub mod Places
 pub mod rows

@@ -3,3 +3,9 @@ pub mod Builders
 pub mod Calls
 pub mod Functions
 pub mod Types
+pub mod Printing
+pub mod Writes
+pub mod Straight
+pub mod Loops
+pub mod Wide
+pub mod Folders

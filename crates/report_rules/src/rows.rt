@@ -2,5 +2,11 @@
 //! nothing.
 
 pub mod calls;
+pub mod folders;
 pub mod functions;
+pub mod loops;
+pub mod printing;
+pub mod straight;
 pub mod types;
+pub mod wide;
+pub mod writes;

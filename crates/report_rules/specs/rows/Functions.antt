@@ -33,6 +33,18 @@ with_x kinds = rules_of (function_of_x kinds ∷ []) uses
 abbrev pub with_annotated_x : Term → List StatKind → Rules
 with_annotated_x type kinds = rules_with (function_of_x kinds ∷ []) uses [] (λ index. type)
 
+-- the same, where x is loose
+abbrev pub with_loose_x : List StatKind → Rules
+with_loose_x kinds = rules_with (function_of_x kinds ∷ []) uses (1 ∷ []) (λ index. unknown)
+
+-- `g()` with a global g
+abbrev pub unknown_call : StatKind
+unknown_call = CallStat (call_at 40 6 [])
+
+-- `x.q = 1`
+abbrev pub q_written : StatKind
+q_written = assign (e 41 (Index (name 9) (codes "q"))) (e 42 num)
+
 -- `if COND then STATEMENT else STATEMENT end`
 abbrev pub choosing : Expr → StatKind → StatKind → StatKind
 choosing cond one other = If (more_arms cond (block_of (one ∷ [])) no_arms) (a_block (block_of (other ∷ [])))
