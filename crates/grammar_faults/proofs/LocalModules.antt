@@ -21,7 +21,7 @@ use Rattle.grammar_faults.proofs.LocalOperators.{expression_inside_local}
 use Rattle.grammar_faults.proofs.LocalStatements.{block_inside_local}
 
 module _ (set : Setting) (w : Tails) where
-  deep_local : LocalReaders w (too_deep set)
+  pub deep_local : LocalReaders w (too_deep set)
   unfolding too_deep
   deep_local = record {
     exp = refuses_deep set 1;
@@ -30,7 +30,7 @@ module _ (set : Setting) (w : Tails) where
     block = choose (peeks_of statements.begins peeks_symbol) (refuses_deep set 0) (done tree.no_stats);
   }
 
-  readers_local : (deep : ℕ) → LocalReaders w (readers set deep)
+  pub readers_local : (deep : ℕ) → LocalReaders w (readers set deep)
   unfolding readers
   readers_local zero = deep_local
   readers_local (suc deep) = record {

@@ -27,32 +27,32 @@ by_operator set inner operation from left (Some op) = code.binary set inner oper
 
 module _ (set : Setting) (inner : Readers) (w : Tails) (held : LocalReaders w inner) (operation : ℕ → Parser Expr)
     (right : (at : ℕ) → Local w 1 (operation at)) where
-  unary_local : (op : UnOp) → Local w 1 (code.unary set inner (operation unary_tightness) op)
+  pub unary_local : (op : UnOp) → Local w 1 (code.unary set inner (operation unary_tightness) op)
   unfolding code.unary
   unary_local op =
       least 1 refl (both at_start (λ from. both (any set) (λ _. both (raises set) (λ _. both (right unary_tightness) (λ e. both (at_span from) (λ span.
       done (tree.the_expr 0 span (tree.Unary op e))))))))
 
-  operand_by_local : (o : Option UnOp) → Local w 1 (code.operand_by set inner operation o)
+  pub operand_by_local : (o : Option UnOp) → Local w 1 (code.operand_by set inner operation o)
   operand_by_local None = assertion_local set inner w held
   operand_by_local (Some op) = unary_local op
 
-  operand_local : Local w 1 (code.operand set inner operation)
+  pub operand_local : Local w 1 (code.operand set inner operation)
   unfolding code.operand
   operand_local =
       by_symbol (λ p. unary_of (symbol p)) (code.operand_by set inner operation) (peeks_of unary_of peeks_symbol) operand_by_local
 
-  binary_local : (from : ℕ) (left : Expr) (op : BinOp) → Local w 1 (code.binary set inner operation from left op)
+  pub binary_local : (from : ℕ) (left : Expr) (op : BinOp) → Local w 1 (code.binary set inner operation from left op)
   unfolding code.binary
   binary_local from left op =
       least 1 refl (both (any set) (λ _. both (raises set) (λ _. both (right (code.right_least op)) (λ e. both (at_span from) (λ span.
       done (tree.the_expr 0 span (tree.Binary op left e)))))))
 
-  climb_by_local : (from : ℕ) (left : Expr) (o : Option BinOp) → Local w 1 (by_operator set inner operation from left o)
+  pub climb_by_local : (from : ℕ) (left : Expr) (o : Option BinOp) → Local w 1 (by_operator set inner operation from left o)
   climb_by_local from left None = refuses set 1
   climb_by_local from left (Some op) = binary_local from left op
 
-  step_local : (from : ℕ) (left : Expr) → Local w 1 (code.climb_step set inner operation from left)
+  pub step_local : (from : ℕ) (left : Expr) → Local w 1 (code.climb_step set inner operation from left)
   step_local from left =
       by_symbol (λ p. binary_of (symbol p)) (by_operator set inner operation from left) (peeks_of binary_of peeks_symbol) (climb_by_local from left)
 
@@ -60,7 +60,7 @@ module _ (set : Setting) (inner : Readers) (w : Tails) (held : LocalReaders w in
   unfolding code.tighter
   peeks_tighter at = peeks_of (λ x. is_some (code.tighter_by at (binary_of x))) peeks_symbol
 
-  from_local : (at from : ℕ) (first : Expr) → Local w 0 (code.climb_from set inner operation at from first)
+  pub from_local : (at from : ℕ) (first : Expr) → Local w 0 (code.climb_from set inner operation at from first)
   unfolding code.climb_from
   from_local at from first = steps set (λ _ p. is_some (code.tighter at p)) (code.climb_step set inner operation from) (λ _. peeks_tighter at) (step_local from) first
 
@@ -118,7 +118,7 @@ module _ (set : Setting) (inner : Readers) (w : Tails) (held : LocalReaders w in
       (λ y. span_from from >>= (λ span. pure (tree.the_expr 0 span (tree.Binary op left y))))
       (alike (code.right_least op) b (behind_raise a b x d (behind_any p a t e l)))))
 
-  step_takes : (from : ℕ) (left : Expr) (p : Place) → Shorter 1 p (code.climb_step set inner one from left p)
+  pub step_takes : (from : ℕ) (left : Expr) (p : Place) → Shorter 1 p (code.climb_step set inner one from left p)
   step_takes from left p = (step_local set inner w held one right from left).takes p
 
   from_same : (at from : ℕ) (turns : ℕ) (left : Expr) (p : Place) → length p.ahead ≤ m + 1
@@ -157,7 +157,7 @@ module _ (set : Setting) (inner : Readers) (w : Tails) (held : LocalReaders w in
   one_more_turn (suc m) at p l =
       climb_same set inner w held (code.operation set inner m) (code.operation set inner (suc m)) m (one_more_turn m) (operation_local set inner w held m) at p (omega arith)
 
-  more_turns : (k m : ℕ) (p : Place) → length p.ahead ≤ m → code.operation set inner m 0 p ≡ code.operation set inner (k + m) 0 p
+  pub more_turns : (k m : ℕ) (p : Place) → length p.ahead ≤ m → code.operation set inner m 0 p ≡ code.operation set inner (k + m) 0 p
   more_turns zero m p l =
       let e : m ≡ 0 + m = omega arith in
       ap (λ z. code.operation set inner z 0 p) e

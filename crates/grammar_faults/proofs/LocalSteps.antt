@@ -69,7 +69,7 @@ module _ (set : Setting) {w : Tails} {S : Type 0} (goes : S → Place → Bool) 
   }
 
 module _ (set : Setting) {w : Tails} {A : Type 0} {item : Parser A} (h : Local w 1 item) where
-  one_more : (found : List A) → Local w 1 (another set item found)
+  pub one_more : (found : List A) → Local w 1 (another set item found)
   one_more found = least 1 refl (both (token set s.Comma) (λ _. both h (λ x. done (found ++ x ∷ []))))
 
   pub listed_from : (found : List A) → Local w 0 (separated_from set item found)

@@ -1,0 +1,14 @@
+pub mod OneFault
+pub mod Closing
+pub mod ClosingTokens
+pub mod ClosingSteps
+pub mod ClosingWords
+pub mod ClosingSymbols
+pub mod ClosingLists
+pub mod ClosingTypes
+pub mod ClosingValues
+pub mod ClosingStatements
+pub mod ClosingBodies
+pub mod ClosingNames
+pub mod ClosingPairs
+pub mod ClosingBraces
