@@ -61,12 +61,10 @@ fn statements_are_read(rt: HostRuntime) -> Result<(), Fail> {
         "for k, v in pairs(t) do end",
         "@native @checked function f() end",
         "function a.b.c:d(x, ...) return ... end",
-        "@native local function f<T, U...>(x: T, ...: U...): (T, U...) end",
+        "@native local function f<T>(x: T, ...: T): (T, ...T) end",
         "local a: number, b = 1, 2",
         "local x",
-        "export type T<A, B... = ...number> = {A}",
-        "type function f(x) return x end",
-        "export type function g() end",
+        "export type T<A, B = number> = {A}",
         "return",
         "return 1, 2;",
         "a.b[c] = 1",
@@ -74,12 +72,66 @@ fn statements_are_read(rt: HostRuntime) -> Result<(), Fail> {
         "a.b ..= 's' a //= 2",
         "f(1)(2).x:y{}'s';",
         "f(\n)",
-        "type = 1 continue = 2 export = 3",
+        "local type = 1 type = 2 continue = 3 export = 4",
         "continue() type() export()",
         "return\n1",
         "local x = 1;f();return",
     ] {
         assert!(rt; is_module(alloc, text)?, "{text:?}");
+    }
+    Ok(())
+}
+
+#[test]
+fn modules_that_the_profile_refuses(rt: HostRuntime) -> Result<(), Fail> {
+    let alloc = rt.alloc();
+    for (text, place, why) in [
+        (
+            "@native local function f<T, U...>(x: T, ...: U...): (T, U...) end",
+            "1:29",
+            "generic pack",
+        ),
+        (
+            "export type T<A, B... = ...number> = {A}",
+            "1:18",
+            "generic pack",
+        ),
+        (
+            "local x: a.b<(c, d), e..., ...f, (g), () -> ()> local y: a<>",
+            "1:22",
+            "generic pack",
+        ),
+        (
+            "local y = 1 type function f(x) return x end",
+            "1:13",
+            "type function",
+        ),
+        ("export type function g() end", "1:1", "type function"),
+        (
+            "type = 1 continue = 2 export = 3",
+            "1:1",
+            "assigned builtin",
+        ),
+        ("x = setmetatable({}, {})", "1:5", "metatable"),
+        ("coroutine.wrap(f)", "1:1", "coroutine"),
+        ("_G.x = 1", "1:1", "environment"),
+        ("local m = require(name)", "1:11", "dynamic require"),
+        ("local a a, a = 1, 2", "1:12", "repeated target"),
+        (
+            "while x do local function f() break end end",
+            "1:31",
+            "break outside loop",
+        ),
+        ("if x then continue end", "1:11", "continue outside loop"),
+        (
+            "repeat if x then continue end local y = 1 until y",
+            "1:18",
+            "continue past local",
+        ),
+        ("function f() return ... end", "1:21", "vararg outside"),
+    ] {
+        let line = format!(in alloc; "a.luau:{place}: refused: {why}\n")?;
+        assert!(rt; refuses(alloc, text, line.as_str())?, "{text:?}");
     }
     Ok(())
 }
@@ -104,7 +156,7 @@ fn expressions_and_types_are_read(rt: HostRuntime) -> Result<(), Fail> {
         "local x: (a) -> b | c local y: (a)? local z: (a | b) & c",
         "local x: {read x: number, write [string]: number; y: a}",
         "local x: {read: number} local y: {{number}} local z: {}",
-        "local x: a.b<(c, d), e..., ...f, (g), () -> ()> local y: a<>",
+        "local x: a.b<(c, d), ...f, (g), () -> ()> local y: a<>",
         "local x: typeof(f(1)) local y: typeof",
     ] {
         assert!(rt; is_module(alloc, text)?, "{text:?}");
@@ -154,7 +206,6 @@ fn a_module_ends_at_each_of_its_statements(rt: HostRuntime) -> Result<(), Fail> 
     for statement in [
         "local Set = {}",
         "export type Set<T> = {items: {[T]: boolean}, count: number}",
-        "type function Key(t) return t end",
         "local size, limit = 0, 1e3",
         "@native local function grow(by: number): number return size + by end",
         "function Set.new(...) local made = {items = {}, count = 0} return made end",

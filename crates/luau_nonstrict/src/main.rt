@@ -89,4 +89,6 @@ mod memory_tests;
 #[cfg(test)]
 mod run_tests;
 #[cfg(test)]
+mod scope_tests;
+#[cfg(test)]
 mod tests;
