@@ -58,14 +58,14 @@ join {o1} {w1} {o2} {w2} p q =
     }
 
 abbrev one_more : Numbers → Numbers
-one_more n = record { exprs = suc n.exprs; bodies = n.bodies }
+one_more n = record { exprs = n.exprs + 1; bodies = n.bodies }
 
 abbrev one_body_more : Numbers → Numbers
-one_body_more n = record { exprs = n.exprs; bodies = suc n.bodies }
+one_body_more n = record { exprs = n.exprs; bodies = n.bodies + 1 }
 
 -- the numbers from the next one on
-from_next : (a l : ℕ) (xs : List ℕ) → xs ≡ range_with_len (suc a) l → a ∷ xs ≡ range_with_len a (suc l)
-from_next a l xs e = ap (λ rest. a ∷ rest) (e ∙ ap (λ b. range_with_len b l) (omega arith))
+from_next : (a l : ℕ) (xs : List ℕ) → xs ≡ range_with_len (a + 1) l → a ∷ xs ≡ range_with_len a (suc l)
+from_next a l xs e = ap (λ rest. a ∷ rest) e
 
 pub one_expr : {w o : List Node} {n m : Numbers} {x y : Expr} → expr_number y ≡ n.exprs → Counted o w (one_more n) m
     → Counted (AnExpr x ∷ o) (AnExpr y ∷ w) n m

@@ -1,5 +1,5 @@
 -- Counting expressions and bodies, part by part of a tree.
-use Rattle.std.specs.Prelude.{ℕ, suc}
+use Rattle.std.specs.Prelude.{ℕ, ◌+◌}
 use Rattle.tree_numbers.specs.declared.numbers.Numbers.{Numbers}
 
 -- the first numbers
@@ -28,7 +28,7 @@ pure x = λ n. (x, n)
 
 -- the number of an expression, and of a body
 abbrev pub next_expr : Counting ℕ
-next_expr = λ n. (n.exprs, record { exprs = suc n.exprs; bodies = n.bodies })
+next_expr = λ n. (n.exprs, record { exprs = n.exprs + 1; bodies = n.bodies })
 
 abbrev pub next_body : Counting ℕ
-next_body = λ n. (n.bodies, record { exprs = n.exprs; bodies = suc n.bodies })
+next_body = λ n. (n.bodies, record { exprs = n.exprs; bodies = n.bodies + 1 })

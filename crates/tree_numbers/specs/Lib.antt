@@ -1,3 +1,9 @@
 pub mod Counting
 pub mod Numbered
 pub mod Erased
+pub mod Outcomes
+pub mod Bounds
+pub mod Headers
+pub mod Calls
+pub mod Tails
+pub mod Marks
