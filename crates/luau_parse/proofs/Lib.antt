@@ -7,3 +7,4 @@ pub mod Steps
 pub mod Turns
 pub mod WholeText
 pub mod Answered
+pub mod Numbering

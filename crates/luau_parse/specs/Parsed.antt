@@ -11,10 +11,15 @@ use Rattle.luau_grammar.specs.declared.error.ParseError.TheVariants.{Lex, NoMemo
 use Rattle.luau_grammar.specs.Places.{Place}
 use Rattle.luau_grammar.specs.Modules.{IsBare, strict}
 use Rattle.luau_grammar.specs.Reading.{Outcome}
+use Rattle.tree_numbers.specs.Numbered.{numbered}
 
--- A text has tokens, and they have this tree.
+-- A text has tokens, and they have this tree, whose expressions and bodies have no numbers yet.
+abbrev pub HasBareTree : List ℕ → Block → Type 0
+HasBareTree text b = (ts : List Tok) × Lexed text ts None × IsBare (strict text) ts b
+
+-- This is the tree of a text, with its numbers.
 abbrev pub HasTree : List ℕ → Block → Type 0
-HasTree text b = (ts : List Tok) × Lexed text ts None × IsBare (strict text) ts b
+HasTree text b = (bare : Block) × HasBareTree text bare × (b ≡ numbered bare)
 
 -- A text has tokens, and they have no tree.
 abbrev pub HasNoTree : List ℕ → Type 0

@@ -8,6 +8,7 @@ use Rattle.luau_grammar.specs.declared.error.ParseError.TheVariants.{Lex}
 use Rattle.luau_grammar.specs.Modules.{before}
 use Rattle.luau_grammar.specs.Reading.{Outcome, strictly}
 use Rattle.luau_grammar.specs.ReadModules.{module_with, max_depth}
+use Rattle.tree_numbers.specs.Numbered.{numbered}
 
 -- what the parser of modules gives for these tokens of a text
 abbrev pub read_module : List ℕ → List Tok → Outcome Block
@@ -24,5 +25,14 @@ tree_by text (Ok ts) = tree_in (read_module text ts)
 tree_by text (Err fault) = Err (Lex fault)
 
 -- The tree of a text, whose expressions and bodies have no numbers yet, or its first fault.
+abbrev pub bare_tree_of : List ℕ → Result Block ParseError
+bare_tree_of text = tree_by text (tokens_of text)
+
+-- a tree with its numbers, or a fault
+abbrev pub with_numbers : Result Block ParseError → Result Block ParseError
+with_numbers (Ok b) = Ok (numbered b)
+with_numbers (Err fault) = Err fault
+
+-- The tree of a text, with its numbers, or the first fault of the text.
 abbrev pub tree_of : List ℕ → Result Block ParseError
-tree_of text = tree_by text (tokens_of text)
+tree_of text = with_numbers (bare_tree_of text)

@@ -4,10 +4,11 @@ ghost use Rattle.luau_lex.specs.Tokens.{seen_token};
 ghost use Rattle.luau_grammar.specs.declared.error.ParseError.TheVariants.{NoMemory};
 ghost use Rattle.luau_tree.specs.View.{view_block, view_expr, view_module, view_type};
 ghost use Rattle.luau_parse.specs.Outcomes.{Reads, place_of, maybe_listed};
-ghost use Rattle.luau_parse.specs.Parsed.{HasNoTree, HasTree, IsLexFault, IsRead};
-ghost use Rattle.luau_parse.specs.Texts.{read_module, tree_of};
+ghost use Rattle.luau_parse.specs.Parsed.{HasBareTree, HasNoTree, HasTree, IsLexFault, IsRead};
+ghost use Rattle.luau_parse.specs.Texts.{bare_tree_of, read_module, tree_of};
 ghost use Rattle.luau_grammar.specs.Reading.{strictly};
 ghost use Rattle.luau_grammar.specs.ReadModules.{readers, too_deep};
+ghost use Rattle.tree_numbers.specs.Numbered.{numbered};
 
 use crate::grammar::Grammar;
 use crate::listed::Listed;
@@ -19,6 +20,7 @@ use luau_tree::parts::block_of;
 use luau_tree::{Block, Expr, MAX_TEXT, Module, TypeSyntax};
 use sqlite_items::Items;
 use std::alloc::Global;
+use tree_numbers::number;
 
 /// Deep enough for each text without a token at a level above 200.
 const MAX_DEPTH: usize = 202;
@@ -136,14 +138,42 @@ fn module_of(alloc: Global, text: &[u8], tokens: &[Token<'_>]) -> Result<Module,
     }
 }
 
-/// The tree of a text of at most 1,048,576 bytes, whose expressions and bodies have no numbers yet. The grammar stands in
-/// `docs/LANGUAGE.md`.
+/// The tree of a text of at most 1,048,576 bytes, whose expressions and bodies have no numbers yet.
+fn bare(alloc: Global, text: &[u8]) -> Result<Module, ParseError>
+    requires { length text.now ≤ MAX_TEXT }
+    ensures tree { IfOk result (λ m. HasBareTree text.now (view_module m)) }
+    ensures fault { IfErr result (λ e. e ≢ NoMemory → IsLexFault text.now e ⊎ HasNoTree text.now) }
+    ensures computed { IfOk result (λ m. bare_tree_of text.now ≡ Ok (view_module m)) }
+    ensures computed_fault { IfErr result (λ e. e ≢ NoMemory → bare_tree_of text.now ≡ Err e) }
+{
+    the_parser_reads_the_grammar();
+    match lex(alloc, text) {
+        Ok(tokens) => module_of(alloc, text, tokens.as_slice()),
+        Err(LexError::NoMemory) => Err(ParseError::NoMemory),
+        Err(fault) => Err(ParseError::Lex(fault)),
+    }
+}
+
+/// A module whose expressions and bodies have their numbers. Where the numbers are not enough, which no text of at most
+/// 1,048,576 bytes brings about, memory is said to run out.
+fn with_numbers(alloc: Global, module: Module) -> Result<Module, ParseError>
+    ensures made { IfOk result (λ m. view_module m ≡ numbered (view_module «module»)) }
+    ensures fault { IfErr result (λ e. e ≡ NoMemory) }
+{
+    match number(alloc, module.block) {
+        Ok(block) => Ok(Module { block }),
+        Err(_) => Err(ParseError::NoMemory),
+    }
+}
+
+/// The tree of a text of at most 1,048,576 bytes. Its expressions are numbered from 0 in the order of the text, and so are
+/// its bodies. The grammar stands in `docs/LANGUAGE.md`.
 ///
 /// Fails with the first fault of the text, which has no tokens or whose tokens are no module then, or where memory
 /// runs out.
 pub fn parse(alloc: Global, text: &[u8]) -> Result<Module, ParseError>
     requires { length text.now ≤ MAX_TEXT }
-    // The text has tokens, and this is their tree.
+    // The text has tokens, and this is their tree with its numbers.
     ensures tree { IfOk result (λ m. HasTree text.now (view_module m)) }
     // The text has no tokens, and this is the fault of it; or its tokens have no tree.
     ensures fault { IfErr result (λ e. e ≢ NoMemory → IsLexFault text.now e ⊎ HasNoTree text.now) }
@@ -151,10 +181,8 @@ pub fn parse(alloc: Global, text: &[u8]) -> Result<Module, ParseError>
     ensures computed { IfOk result (λ m. tree_of text.now ≡ Ok (view_module m)) }
     ensures computed_fault { IfErr result (λ e. e ≢ NoMemory → tree_of text.now ≡ Err e) }
 {
-    the_parser_reads_the_grammar();
-    match lex(alloc, text) {
-        Ok(tokens) => module_of(alloc, text, tokens.as_slice()),
-        Err(LexError::NoMemory) => Err(ParseError::NoMemory),
-        Err(fault) => Err(ParseError::Lex(fault)),
+    match bare(alloc, text) {
+        Ok(module) => with_numbers(alloc, module),
+        Err(fault) => Err(fault),
     }
 }
