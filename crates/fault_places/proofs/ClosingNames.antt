@@ -41,7 +41,7 @@ module _ (f : Frame) where
       subst (λ b. Far f (if b then read.next f.low (place f.cut l m) else Err (read.refusal f.low (place f.cut l m)))) (sym d)
       (far_of (read.next f.low (place f.cut l m)) (seen_next f.low f.bound f.cut x l m f.late e d))
 
-  then_far : {A B : Type 0} (b : Bool) (o r : Outcome A) (h : A → Parser B) → Far f (and_then o h) → Far f (and_then r h) → Far f (and_then (if b then o else r) h)
+  pub then_far : {A B : Type 0} (b : Bool) (o r : Outcome A) (h : A → Parser B) → Far f (and_then o h) → Far f (and_then r h) → Far f (and_then (if b then o else r) h)
   then_far true o r h k j = k
   then_far false o r h k j = j
 
@@ -67,7 +67,7 @@ module _ (f : Frame) where
     no_fewer u w vs x l m e h = let k = fewer f [] vs f.cut u w x l m e h in absurd (omega arith)
 
     name_claim : (u : Tok) (l m : ℕ) → m ≤ top f → same (symbol_of u) s.Name ≡ true → (o : Outcome A) → Shorter 1 (place (u ∷ f.cut) l m) o → Claim f F any v (u ∷ []) l m o → Claim f F any chosen (u ∷ []) l m o
-    name_claim u l m b e (Err d) h k = λ _. record { close = λ zs. zs; kind = tt; ends = λ zs fol. (named u e).opens zs l m (let x : m ≤ roof f = omega arith in x) fol }
+    name_claim u l m b e (Err d) h k = λ _. record { close = λ zs. zs; kind = tt; late = λ _ _ b. b; ends = λ zs fol. (named u e).opens zs l m (let x : m ≤ roof f = omega arith in x) fol }
     name_claim u l m b e (Ok x) h (inl k) = inl k
     name_claim u l m b e (Ok x) h (inr (inl k)) = absurd (no_fewer u k.token k.rest x l m k.ahead h)
     name_claim u l m b e (Ok x) h (inr (inr k)) = inr (inr (record { ahead = k.ahead; ends = λ zs fol. (named u e).opens zs l m (let x : m ≤ roof f = omega arith in x) fol }))

@@ -27,7 +27,7 @@ pub nesting_apart : (len n : ℕ) (cut : List Tok) → Nesting n ≡ fault_of le
 nesting_apart len n [] e = absurd (cc)
 nesting_apart len n (t ∷ ts) e = absurd (cc)
 
-ambiguous_apart : (len n : ℕ) (cut : List Tok) → AmbiguousCall n ≡ fault_of len cut → ⊥
+pub ambiguous_apart : (len n : ℕ) (cut : List Tok) → AmbiguousCall n ≡ fault_of len cut → ⊥
 ambiguous_apart len n [] e = absurd (cc)
 ambiguous_apart len n (t ∷ ts) e = absurd (cc)
 
@@ -68,7 +68,7 @@ module _ (f : Frame) where
 
   -- ---- refusals
 
-  refused_far : (ts : List Tok) (l m : ℕ) → Beyond f ts → refusal f.low (place ts l m) ≡ fault f → ⊥
+  pub refused_far : (ts : List Tok) (l m : ℕ) → Beyond f ts → refusal f.low (place ts l m) ≡ fault f → ⊥
   unfolding refusal
   refused_far [] l m b = end_apart f.low.len f.bound f.cut b
   refused_far (u ∷ us) l m b = late_apart f.low.len f.bound f.cut u us f.late b
@@ -93,6 +93,21 @@ module _ (f : Frame) where
     far = λ p b. refused_far p.ahead p.last p.level b;
   }
 
+  -- whatever the other parser does
+  pub refuses_with : {A C : Type 0} (F : Symbol → Type 0) (sh : A → C) (stay : C → Type 0) (s : Parser A) → Goes f F sh stay (refuse f.low) s
+  refuses_with F sh stay s = record {
+    idle = λ l m. tt;
+    inside = λ u us l m h b e. absurd (refused_before u (us ++ f.cut) l m b.0 e);
+    far = λ p b. refused_far p.ahead p.last p.level b;
+  }
+
+  pub refuses_deep_with : {A C : Type 0} (F : Symbol → Type 0) (sh : A → C) (stay : C → Type 0) (s : Parser A) → Goes f F sh stay (λ p. Err (deep_refusal f.low p)) s
+  refuses_deep_with F sh stay s = record {
+    idle = λ l m. tt;
+    inside = λ u us l m h b e. absurd (deep_before u (us ++ f.cut) l m e);
+    far = λ p b. deep_far p.ahead p.last p.level b;
+  }
+
   pub refuses_deep : {A C : Type 0} (F : Symbol → Type 0) (sh : A → C) (stay : C → Type 0) → Goes f F sh stay (λ p. Err (deep_refusal f.low p)) (λ p. Err (deep_refusal f.high p))
   refuses_deep F sh stay = record {
     idle = λ l m. tt;
@@ -112,10 +127,10 @@ module _ (f : Frame) where
   unfolding next
   next_high t ts l m h = ap (λ z. if z then Ok (t, behind t ts m) else Err (Nesting t.span.start)) (f.free t m h)
 
-  fits : (m : ℕ) → m ≤ top f → m ≤ f.high.limit
+  pub fits : (m : ℕ) → m ≤ top f → m ≤ f.high.limit
   fits m h = let r = f.room in omega arith
 
-  fits_roof : (m : ℕ) → m ≤ top f → m ≤ roof f
+  pub fits_roof : (m : ℕ) → m ≤ top f → m ≤ roof f
   fits_roof m h = omega arith
 
   taken : (u : Tok) (us : List Tok) (l m : ℕ) → m ≤ top f → Before f us → Claim f anything any (next f.high) (u ∷ us) l m (Ok (u, behind u (us ++ f.cut) m))
@@ -180,7 +195,7 @@ module _ (f : Frame) where
     far = λ p b. far_if f (c p) (r p) (t p) (h.far p b) (k.far p b);
   }
 
-  ends_by : {A C : Type 0} (a : ℕ) (sh : A → C) (kind : C) (r s : Parser A) (p : Place) (zs : List Tok) → r p ≡ s p → Ends f a sh kind s p zs → Ends f a sh kind r p zs
+  pub ends_by : {A C : Type 0} (a : ℕ) (sh : A → C) (kind : C) (r s : Parser A) (p : Place) (zs : List Tok) → r p ≡ s p → Ends f a sh kind s p zs → Ends f a sh kind r p zs
   ends_by a sh kind r s p zs e h = record { value = h.value; last = h.last; level = h.level; low = h.low; same = h.same; reads = e ∙ h.reads }
 
   -- closing tokens go the second way
@@ -210,7 +225,7 @@ module _ (f : Frame) where
   settle {sh = sh} {stay = stay} {still = still} {r = r} h k = record { idle = λ l m. settled sh stay still h (r (place f.cut l m)) (k.idle l m); inside = k.inside; far = k.far }
 
   under_claim : {A C : Type 0} (F G : Symbol → Type 0) (sh : A → C) (s : Parser A) → ((x : Symbol) → G x → F x) → (us : List Tok) (l m : ℕ) (o : Outcome A) → Claim f F sh s us l m o → Claim f G sh s us l m o
-  under_claim F G sh s h us l m (Err e) k = λ d. let c = k d in record { close = c.close; kind = c.kind; ends = λ zs fol. c.ends zs (h (first_symbol zs) fol) }
+  under_claim F G sh s h us l m (Err e) k = λ d. let c = k d in record { close = c.close; kind = c.kind; late = λ zs fol. c.late zs (h (first_symbol zs) fol); ends = λ zs fol. c.ends zs (h (first_symbol zs) fol) }
   under_claim F G sh s h us l m (Ok x) (inl k) = inl k
   under_claim F G sh s h us l m (Ok x) (inr (inl k)) = inr (inl k)
   under_claim F G sh s h us l m (Ok x) (inr (inr k)) = inr (inr (record { ahead = k.ahead; ends = λ new fol. k.ends new (h (first_symbol new) fol) }))
@@ -226,7 +241,7 @@ module _ (f : Frame) where
   forget_ends a sh kind s p zs h = record { value = h.value; last = h.last; level = h.level; low = h.low; same = refl; reads = h.reads }
 
   forget_claim : {A C : Type 0} (F : Symbol → Type 0) (sh : A → C) (s : Parser A) (us : List Tok) (l m : ℕ) (o : Outcome A) → Claim f F sh s us l m o → Claim f F any s us l m o
-  forget_claim F sh s us l m (Err e) k = λ d. let c = k d in record { close = c.close; kind = tt; ends = λ zs fol. forget_ends (roof f) sh (c.kind) s (place (us ++ c.close zs) l m) zs (c.ends zs fol) }
+  forget_claim F sh s us l m (Err e) k = λ d. let c = k d in record { close = c.close; kind = tt; late = c.late; ends = λ zs fol. forget_ends (roof f) sh (c.kind) s (place (us ++ c.close zs) l m) zs (c.ends zs fol) }
   forget_claim F sh s us l m (Ok x) (inl k) = inl k
   forget_claim F sh s us l m (Ok x) (inr (inl k)) = inr (inl (record { token = k.token; rest = k.rest; ahead = k.ahead; before = k.before; level = k.level; value = k.value; same = refl; reads = k.reads }))
   forget_claim F sh s us l m (Ok x) (inr (inr k)) = inr (inr (record { ahead = k.ahead; ends = λ new fol. forget_ends (roof f) sh (sh x.0) s (place (us ++ new) l m) new (k.ends new fol) }))
@@ -344,7 +359,7 @@ module _ (f : Frame) where
       → Claim f F sh s us l (m + 1) o → Claim f F sh (phrase f.high may s) us l m (and_then o (λ x q. Ok (x, at_level m q)))
   leveled_claim F sh may s us l m b (Err e) h = λ d.
       let c = h d in
-      record { close = c.close; kind = c.kind; ends = λ zs fol. leveled_ends (roof f) sh (c.kind) may s (us ++ c.close zs) zs l m (fits f m b) (fits_roof f m b) (roof f) (c.ends zs fol) }
+      record { close = c.close; kind = c.kind; late = c.late; ends = λ zs fol. leveled_ends (roof f) sh (c.kind) may s (us ++ c.close zs) zs l m (fits f m b) (fits_roof f m b) (roof f) (c.ends zs fol) }
   leveled_claim F sh may s us l m b (Ok x) (inl h) = inl h
   leveled_claim F sh may s us l m b (Ok x) (inr (inl h)) =
       inr (inl (record {
@@ -360,11 +375,11 @@ module _ (f : Frame) where
   leveled_claim F sh may s us l m b (Ok x) (inr (inr h)) =
       inr (inr (record { ahead = h.ahead; ends = λ new fol. leveled_ends (roof f) sh (sh x.0) may s (us ++ new) new l m (fits f m b) (fits_roof f m b) (roof f) (h.ends new fol) }))
 
-  leveled_idle : {A C : Type 0} (sh : A → C) (stay : C → Type 0) (m : ℕ) (o : Outcome A) → Idle f sh stay o → Idle f sh stay (and_then o (λ x q. Ok (x, at_level m q)))
+  pub leveled_idle : {A C : Type 0} (sh : A → C) (stay : C → Type 0) (m : ℕ) (o : Outcome A) → Idle f sh stay o → Idle f sh stay (and_then o (λ x q. Ok (x, at_level m q)))
   leveled_idle sh stay m (Ok x) h = h
   leveled_idle sh stay m (Err e) h = h
 
-  leveled_far : {A : Type 0} (m : ℕ) (o : Outcome A) → Far f o → Far f (and_then o (λ x q. Ok (x, at_level m q)))
+  pub leveled_far : {A : Type 0} (m : ℕ) (o : Outcome A) → Far f o → Far f (and_then o (λ x q. Ok (x, at_level m q)))
   leveled_far m (Ok x) h = h
   leveled_far m (Err e) h = h
 
@@ -401,7 +416,7 @@ module _ (f : Frame) where
 
   -- ---- a token, and one level deeper
 
-  raise_high : (ts : List Tok) (l m : ℕ) → m ≤ f.high.limit → raise f.high (place ts l m) ≡ Ok (tt {0}, place ts l (m + 1))
+  pub raise_high : (ts : List Tok) (l m : ℕ) → m ≤ f.high.limit → raise f.high (place ts l m) ≡ Ok (tt {0}, place ts l (m + 1))
   unfolding raise
   raise_high ts l m h = ap (λ z. if z then Ok (tt {0}, place ts l (m + 1)) else Err (deep_refusal f.high (place ts l m))) (le-leb m f.high.limit h)
 
@@ -439,7 +454,7 @@ module _ (f : Frame) where
   unfolding raise
   raise_far p b = far_if f (nat_le p.level f.low.limit) (Ok (tt {0}, raised p)) (Err (deep_refusal f.low p)) b (deep_far f p.ahead p.last p.level b)
 
-  idle_of_far : {A C : Type 0} (sh : A → C) (stay : C → Type 0) (o : Outcome A) → Far f o → Idle f sh stay o
+  pub idle_of_far : {A C : Type 0} (sh : A → C) (stay : C → Type 0) (o : Outcome A) → Far f o → Idle f sh stay o
   idle_of_far sh stay (Ok x) h = inl h
   idle_of_far sh stay (Err e) h = tt
 

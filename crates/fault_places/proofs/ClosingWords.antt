@@ -1,7 +1,8 @@
 -- The tokens that close what is open, and what each symbol goes on with.
-use Rattle.std.proofs.Common.{◌≡◌, ℕ, false, List, codes, refl, None}
+use Rattle.std.proofs.Common.{◌≡◌, ℕ, false, List, [], codes, refl, None}
 use Rattle.luau_lex.specs.Tokens.{Tok}
 use Rattle.luau_lex.specs.declared.token.Kind.{Kind}
+use Rattle.luau_lex.specs.declared.token.Kind.TheVariants as kind
 use Rattle.luau_grammar.specs.declared.symbol.Symbol.{Symbol}
 use Rattle.luau_grammar.specs.declared.symbol.Symbol.TheVariants as s
 use Rattle.luau_grammar.specs.Symbols.{same}
@@ -21,6 +22,26 @@ the_sign at bytes = closing at (sign bytes)
 abbrev pub the_word : ℕ → List ℕ → Tok
 the_word at bytes = closing at (word bytes)
 
+-- a closing string, and the part that ends an interpolated string
+abbrev pub the_text : ℕ → Tok
+the_text at = record { kind = kind.Quoted; span = record { start = at; end = at }; bytes = [] }
+
+abbrev pub the_last : ℕ → Tok
+the_last at = record { kind = kind.End; span = record { start = at; end = at }; bytes = [] }
+
+abbrev pub the_mid : ℕ → Tok
+the_mid at = record { kind = kind.Mid; span = record { start = at; end = at }; bytes = [] }
+
+abbrev pub the_begin : ℕ → Tok
+the_begin at = record { kind = kind.Begin; span = record { start = at; end = at }; bytes = [] }
+
+abbrev pub the_whole : ℕ → Tok
+the_whole at = record { kind = kind.Whole; span = record { start = at; end = at }; bytes = [] }
+
+-- a closing numeral
+abbrev pub the_number : ℕ → Tok
+the_number at = record { kind = kind.Numeral; span = record { start = at; end = at }; bytes = [] }
+
 -- no type goes on with a symbol
 pub record EndsType (x : Symbol) : Type 0 where
   pub question : same x s.Question ≡ false
@@ -33,6 +54,8 @@ pub record EndsType (x : Symbol) : Type 0 where
   pub colon : same x s.Colon ≡ false
   pub paren : same x s.LeftParen ≡ false
   pub assign : same x s.Assign ≡ false
+  pub name : same x s.Name ≡ false
+  pub bracket : same x s.LeftBracket ≡ false
 
 -- no expression does
 pub record EndsValue (x : Symbol) : Type 0 where
@@ -54,19 +77,19 @@ pub record EndsValues (x : Symbol) : Type 0 where
 
 pub right_paren : EndsTypes s.RightParen
 unfolding same
-right_paren = record { one = record { question = refl; pipe = refl; ampersand = refl; arrow = refl; less = refl; dot = refl; dots = refl; colon = refl; paren = refl; assign = refl }; comma = refl }
+right_paren = record { one = record { question = refl; pipe = refl; ampersand = refl; arrow = refl; less = refl; dot = refl; dots = refl; colon = refl; paren = refl; assign = refl; name = refl; bracket = refl }; comma = refl }
 
 pub right_bracket : EndsTypes s.RightBracket
 unfolding same
-right_bracket = record { one = record { question = refl; pipe = refl; ampersand = refl; arrow = refl; less = refl; dot = refl; dots = refl; colon = refl; paren = refl; assign = refl }; comma = refl }
+right_bracket = record { one = record { question = refl; pipe = refl; ampersand = refl; arrow = refl; less = refl; dot = refl; dots = refl; colon = refl; paren = refl; assign = refl; name = refl; bracket = refl }; comma = refl }
 
 pub right_brace : EndsTypes s.RightBrace
 unfolding same
-right_brace = record { one = record { question = refl; pipe = refl; ampersand = refl; arrow = refl; less = refl; dot = refl; dots = refl; colon = refl; paren = refl; assign = refl }; comma = refl }
+right_brace = record { one = record { question = refl; pipe = refl; ampersand = refl; arrow = refl; less = refl; dot = refl; dots = refl; colon = refl; paren = refl; assign = refl; name = refl; bracket = refl }; comma = refl }
 
 pub greater : EndsTypes s.Greater
 unfolding same
-greater = record { one = record { question = refl; pipe = refl; ampersand = refl; arrow = refl; less = refl; dot = refl; dots = refl; colon = refl; paren = refl; assign = refl }; comma = refl }
+greater = record { one = record { question = refl; pipe = refl; ampersand = refl; arrow = refl; less = refl; dot = refl; dots = refl; colon = refl; paren = refl; assign = refl; name = refl; bracket = refl }; comma = refl }
 
 pub value_paren : EndsValue s.RightParen
 unfolding same
@@ -82,20 +105,20 @@ value_brace = record { typ = right_brace.one; bracket = refl; brace = refl; text
 
 pub value_then : EndsValue s.Then
 unfolding same
-value_then = record { typ = record { question = refl; pipe = refl; ampersand = refl; arrow = refl; less = refl; dot = refl; dots = refl; colon = refl; paren = refl; assign = refl }; bracket = refl; brace = refl; text = refl; cast = refl; binary = refl }
+value_then = record { typ = record { question = refl; pipe = refl; ampersand = refl; arrow = refl; less = refl; dot = refl; dots = refl; colon = refl; paren = refl; assign = refl; name = refl; bracket = refl }; bracket = refl; brace = refl; text = refl; cast = refl; binary = refl }
 
 pub value_else : EndsValue s.Else
 unfolding same
-value_else = record { typ = record { question = refl; pipe = refl; ampersand = refl; arrow = refl; less = refl; dot = refl; dots = refl; colon = refl; paren = refl; assign = refl }; bracket = refl; brace = refl; text = refl; cast = refl; binary = refl }
+value_else = record { typ = record { question = refl; pipe = refl; ampersand = refl; arrow = refl; less = refl; dot = refl; dots = refl; colon = refl; paren = refl; assign = refl; name = refl; bracket = refl }; bracket = refl; brace = refl; text = refl; cast = refl; binary = refl }
 
 pub value_do : EndsValue s.Do
 unfolding same
-value_do = record { typ = record { question = refl; pipe = refl; ampersand = refl; arrow = refl; less = refl; dot = refl; dots = refl; colon = refl; paren = refl; assign = refl }; bracket = refl; brace = refl; text = refl; cast = refl; binary = refl }
+value_do = record { typ = record { question = refl; pipe = refl; ampersand = refl; arrow = refl; less = refl; dot = refl; dots = refl; colon = refl; paren = refl; assign = refl; name = refl; bracket = refl }; bracket = refl; brace = refl; text = refl; cast = refl; binary = refl }
 
 pub value_comma : EndsValue s.Comma
 unfolding same
-value_comma = record { typ = record { question = refl; pipe = refl; ampersand = refl; arrow = refl; less = refl; dot = refl; dots = refl; colon = refl; paren = refl; assign = refl }; bracket = refl; brace = refl; text = refl; cast = refl; binary = refl }
+value_comma = record { typ = record { question = refl; pipe = refl; ampersand = refl; arrow = refl; less = refl; dot = refl; dots = refl; colon = refl; paren = refl; assign = refl; name = refl; bracket = refl }; bracket = refl; brace = refl; text = refl; cast = refl; binary = refl }
 
 pub type_in : EndsType s.In
 unfolding same
-type_in = record { question = refl; pipe = refl; ampersand = refl; arrow = refl; less = refl; dot = refl; dots = refl; colon = refl; paren = refl; assign = refl }
+type_in = record { question = refl; pipe = refl; ampersand = refl; arrow = refl; less = refl; dot = refl; dots = refl; colon = refl; paren = refl; assign = refl; name = refl; bracket = refl }

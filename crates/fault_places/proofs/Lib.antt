@@ -12,3 +12,13 @@ pub mod ClosingBodies
 pub mod ClosingNames
 pub mod ClosingPairs
 pub mod ClosingBraces
+pub mod ClosingChoices
+pub mod ClosingMembers
+pub mod ClosingForms
+pub mod ClosingTables
+pub mod ClosingArguments
+pub mod ClosingSuffixes
+pub mod ClosingParts
+pub mod ClosingExpressions
+pub mod ClosingOperators
+pub mod ClosingTargets
