@@ -15,7 +15,7 @@ use Rattle.type_arena.specs.declared.node.TypeRef.{TypeRef}
 use Rattle.type_arena.proofs.MeaningLemmas.{fields_by-same, rows_by-same, Reaches-there, has-kept}
 use Rattle.type_normal.specs.Adds.{Adds}
 use Rattle.type_normal.proofs.AddsFacts.{FromRefs, FromLiterals, there_kept, adds_none}
-use Rattle.type_normal.proofs.CleanFacts.{home_back}
+pub use Rattle.type_normal.proofs.CleanFacts.{home_back}
 use Rattle.type_normal.specs.Growing.{given_refs, IsClean}
 
 nothing_in : {X : Type 0} (x : X) → Contains [] x → ⊥
