@@ -19,13 +19,15 @@ use Rattle.report_rules.specs.Guard.{guard, guarded}
 use Rattle.report_rules.specs.TypeMap.{TypeMap, refined_by, refine}
 use Rattle.report_rules.specs.Context.{Context, unless, branch}
 use Rattle.run_frame.specs.Analysis.{Analysis, is_loose}
+use Rattle.run_frame.proofs.Fine.{HasValue}
 use Rattle.run_frame.proofs.Held.{Reads, Held, Violated}
 use Rattle.run_frame.proofs.Layers.{rules_of, Shows}
 use Rattle.run_frame.proofs.Passing.{one_of, both_of}
+use Rattle.run_frame.proofs.Guards.{guarded_firm}
 
--- a condition that came out so shows what its guard says, of each local
+-- a condition that came out so shows what its guard says, of each local that isn't loose
 abbrev pub ShowsAll : Analysis → Frame → Expr → Bool → State → Type 0
-ShowsAll an frame cond truth t = (x : ℕ) → (guard (rules_of an frame) cond truth x ≡ unknown) ⊎ Shows frame t x (guard (rules_of an frame) cond truth x)
+ShowsAll an frame cond truth t = (x : ℕ) → is_loose an frame.module_at x ≡ false → (guard (rules_of an frame) cond truth x ≡ unknown) ⊎ Shows frame t x (guard (rules_of an frame) cond truth x)
 
 -- ---- one cell, one value
 
@@ -40,9 +42,9 @@ reads_once frame t x c d u v p q = same_content u v (slice_get t.store.cells c) 
     (subst (λ (i : ℕ). slice_get t.store.cells i ≡ Some v) (sym (same_option c d (cell_of t.store.bindings frame.activation x) p.0 q.0)) q.1)
 
 -- so what a local reads as is in what the guard says of it
-shown : (an : Analysis) (frame : Frame) (cond : Expr) (truth : Bool) (t : State) (x c : ℕ) (v : Value) → ShowsAll an frame cond truth t → Reads frame t x c v
-    → holds t.store.heap v (guard (rules_of an frame) cond truth x) ≡ true
-shown an frame cond truth t x c v shows q = by_side (shows x)
+shown : (an : Analysis) (frame : Frame) (cond : Expr) (truth : Bool) (t : State) (x c : ℕ) (v : Value) → ShowsAll an frame cond truth t → is_loose an frame.module_at x ≡ false
+    → Reads frame t x c v → holds t.store.heap v (guard (rules_of an frame) cond truth x) ≡ true
+shown an frame cond truth t x c v shows firm q = by_side (shows x firm)
   where
     by_side : (guard (rules_of an frame) cond truth x ≡ unknown) ⊎ Shows frame t x (guard (rules_of an frame) cond truth x)
         → holds t.store.heap v (guard (rules_of an frame) cond truth x) ≡ true
@@ -73,7 +75,7 @@ violated_branch an frame cond true when_true when_false t flat shows h = (
   h.2,
   h.3,
   h.4,
-  unless_in t.store.heap h.2 (guard (rules_of an frame) cond true h.0) (when_true h.0) (flat true h.0) (shown an frame cond true t h.0 h.1 h.2 shows h.4)
+  unless_in t.store.heap h.2 (guard (rules_of an frame) cond true h.0) (when_true h.0) (flat true h.0) (shown an frame cond true t h.0 h.1 h.2 shows h.3 h.4)
       (both_of (holds t.store.heap h.2 (unless (guard (rules_of an frame) cond true h.0) (when_true h.0))) (holds t.store.heap h.2 (unless (guard (rules_of an frame) cond false h.0) (when_false h.0)))
       (sym (meet_holds t.store.heap h.2 (unless (guard (rules_of an frame) cond true h.0) (when_true h.0)) (unless (guard (rules_of an frame) cond false h.0) (when_false h.0)))
       ∙ cut_down_below t.store.heap h.2 (meet (unless (guard (rules_of an frame) cond true h.0) (when_true h.0)) (unless (guard (rules_of an frame) cond false h.0) (when_false h.0))) h.5)).0,
@@ -84,7 +86,7 @@ violated_branch an frame cond false when_true when_false t flat shows h = (
   h.2,
   h.3,
   h.4,
-  unless_in t.store.heap h.2 (guard (rules_of an frame) cond false h.0) (when_false h.0) (flat false h.0) (shown an frame cond false t h.0 h.1 h.2 shows h.4)
+  unless_in t.store.heap h.2 (guard (rules_of an frame) cond false h.0) (when_false h.0) (flat false h.0) (shown an frame cond false t h.0 h.1 h.2 shows h.3 h.4)
       (both_of (holds t.store.heap h.2 (unless (guard (rules_of an frame) cond true h.0) (when_true h.0))) (holds t.store.heap h.2 (unless (guard (rules_of an frame) cond false h.0) (when_false h.0)))
       (sym (meet_holds t.store.heap h.2 (unless (guard (rules_of an frame) cond true h.0) (when_true h.0)) (unless (guard (rules_of an frame) cond false h.0) (when_false h.0)))
       ∙ cut_down_below t.store.heap h.2 (meet (unless (guard (rules_of an frame) cond true h.0) (when_true h.0)) (unless (guard (rules_of an frame) cond false h.0) (when_false h.0))) h.5)).1,
@@ -133,25 +135,27 @@ none_so p (x ∷ xs) h = neither (p x) (list_any p xs) (h x (head (x == x) (is_a
     neither true b e k = e
     neither false b e k = k
 
--- the locals that a condition may say something of aren't loose, and their entries aren't empty
-abbrev pub AreFull : Analysis → Frame → TypeMap → Expr → Type 0
-AreFull an frame map cond = (x : ℕ) → is_among x (guarded (rules_of an frame) cond) ≡ true → (is_loose an frame.module_at x ≡ false) × (is_empty (map.entry x) ≡ false)
+-- an entry that has a value isn't empty
+value_full : (type : Term) → HasValue type → is_empty type ≡ false
+value_full type q = not_empty q.0 q.1 type q.2
 
-pub held_refined : (an : Analysis) (frame : Frame) (map : TypeMap) (cond : Expr) (truth : Bool) (t : State) → AreFull an frame map cond → ShowsAll an frame cond truth t
+-- the map where a condition came out so. It is live: of a local of the condition that its guard says nothing of, the entry is as
+-- it was, and has a value; and of one that its guard says something of, the value that it holds is in the new entry
+pub held_refined : (an : Analysis) (frame : Frame) (map : TypeMap) (cond : Expr) (truth : Bool) (t : State) → ShowsAll an frame cond truth t
     → Held an frame map t → Held an frame (refine (rules_of an frame) cond truth map) t
-held_refined an frame map cond truth t full shows h = record {
+held_refined an frame map cond truth t shows h = record {
   live = alive map.dead (list_any (λ local. is_empty (refined_by (guard (rules_of an frame) cond truth local) (map.entry local))) (guarded (rules_of an frame) cond)) h.live
-      (none_so (λ local. is_empty (refined_by (guard (rules_of an frame) cond truth local) (map.entry local))) (guarded (rules_of an frame) cond) (λ x e. by_side x (full x e) (shows x)));
-  entries = λ x c v firm q. refined_in t.store.heap v (guard (rules_of an frame) cond truth x) (map.entry x) (shown an frame cond truth t x c v shows q) (h.entries x c v firm q);
+      (none_so (λ local. is_empty (refined_by (guard (rules_of an frame) cond truth local) (map.entry local))) (guarded (rules_of an frame) cond)
+      (λ x e. value_full (refined_by (guard (rules_of an frame) cond truth x) (map.entry x)) (by_side x (guarded_firm (rules_of an frame) cond x e) (shows x (guarded_firm (rules_of an frame) cond x e)))));
+  full = λ x firm. by_side x firm (shows x firm);
+  entries = λ x c v firm q. refined_in t.store.heap v (guard (rules_of an frame) cond truth x) (map.entry x) (shown an frame cond truth t x c v shows firm q) (h.entries x c v firm q);
 }
   where
     alive : (a b : Bool) → a ≡ false → b ≡ false → a || b ≡ false
     alive true b e k = e
     alive false b e k = k
 
-    by_side : (x : ℕ) → (is_loose an frame.module_at x ≡ false) × (is_empty (map.entry x) ≡ false)
-        → (guard (rules_of an frame) cond truth x ≡ unknown) ⊎ Shows frame t x (guard (rules_of an frame) cond truth x)
-        → is_empty (refined_by (guard (rules_of an frame) cond truth x) (map.entry x)) ≡ false
-    by_side x p (inl e) = subst (λ (says : Term). is_empty (refined_by says (map.entry x)) ≡ false) (sym e) p.1
-    by_side x p (inr e) = not_empty t.store.heap e.1 (refined_by (guard (rules_of an frame) cond truth x) (map.entry x))
-        (refined_in t.store.heap e.1 (guard (rules_of an frame) cond truth x) (map.entry x) e.3 (h.entries x e.0 e.1 p.0 e.2))
+    by_side : (x : ℕ) → is_loose an frame.module_at x ≡ false → (guard (rules_of an frame) cond truth x ≡ unknown) ⊎ Shows frame t x (guard (rules_of an frame) cond truth x)
+        → HasValue (refined_by (guard (rules_of an frame) cond truth x) (map.entry x))
+    by_side x firm (inl e) = subst (λ (says : Term). HasValue (refined_by says (map.entry x))) (sym e) (h.full x firm)
+    by_side x firm (inr e) = (t.store.heap, e.1, refined_in t.store.heap e.1 (guard (rules_of an frame) cond truth x) (map.entry x) e.3 (h.entries x e.0 e.1 firm e.2))

@@ -42,6 +42,7 @@ use Rattle.run_frame.proofs.Kept.{Doer, nobody}
 use Rattle.run_frame.proofs.Fine.{Sub, Fine}
 use Rattle.run_frame.proofs.Held.{Runs, Reads, Held, Violated}
 use Rattle.run_frame.proofs.Parts.{Ends}
+use Rattle.run_frame.proofs.LooseContexts.{SparesLoose, SparesAll}
 
 -- ---- who acts
 
@@ -208,7 +209,8 @@ abbrev pub Shows : Frame → State → ℕ → Term → Type 0
 Shows frame t x type = (c : ℕ) × (v : Value) × Reads frame t x c v × (holds t.store.heap v type ≡ true)
 
 -- an expression gives values that stand, the first of which has the expression's type; and one value unless it expands. Where it
--- is always a builtin it gives that; a bare name gives what its local holds; a condition shows what the rules say of locals by it;
+-- is always a builtin it gives that; a bare name gives what its local holds; a condition shows what the rules say by it of locals that
+-- aren't loose;
 -- and `type(x)` gives the name of the kind of what x holds
 pub record Gives (an : Analysis) (frame : Frame) (map : TypeMap) (e : Expr) (vs : List Value) (t : State) : Type 0 where
   pub stand : AllByRecursion (Stands t.store.heap) vs
@@ -216,7 +218,7 @@ pub record Gives (an : Analysis) (frame : Frame) (map : TypeMap) (e : Expr) (vs 
   pub one : expands e ≡ false → (v : Value) × (vs ≡ v ∷ [])
   pub fixed : (path : List ℕ) → fixed_builtin (rules_of an frame) e ≡ Some path → vs ≡ Builtin path ∷ []
   pub local : (x : ℕ) → local_named (rules_of an frame) e ≡ Some x → is_loose an frame.module_at x ≡ false → (c : ℕ) × Reads frame t x c (first vs)
-  pub guard_shows : (x : ℕ) → (guard (rules_of an frame) e (is_true (first vs)) x ≡ unknown) ⊎ Shows frame t x (guard (rules_of an frame) e (is_true (first vs)) x)
+  pub guard_shows : (x : ℕ) → is_loose an frame.module_at x ≡ false → (guard (rules_of an frame) e (is_true (first vs)) x ≡ unknown) ⊎ Shows frame t x (guard (rules_of an frame) e (is_true (first vs)) x)
   pub kind : (x : ℕ) → kind_subject (rules_of an frame) e ≡ Some x → (c : ℕ) × (v : Value) × Reads frame t x c v × IsKindName v (first vs)
 
 -- how a statement ends: where it falls through, the map after it matches; it breaks, continues and returns only if that stands in
@@ -304,11 +306,13 @@ pub record Backward (an : Analysis) (l : Layer) : Type 0 where
   pub stat : (w : World) (s : State) (frame : Frame) (map : TypeMap) (st : Stat) (behind breaks_to continues_to : Context) → Fine an w s → Runs an w s frame
       → Held an frame map s → Inside frame (of_stat st) (stats_of st) → Placed an frame (seen_stat (rules_of an frame) map st)
       → Marked an frame (found_stat (rules_of an frame) (seen_of an frame) st behind breaks_to continues_to)
+      → SparesAll (rules_of an frame) behind breaks_to continues_to
       → (ending : Ending) (t : State) → l.stat frame st s ≡ Gave ending t
       → Trouble an frame (stm (rules_of an frame) (seen_of an frame) st behind breaks_to continues_to) s t → EndsBad an frame behind breaks_to continues_to ending t
   pub turns : (w : World) (s : State) (frame : Frame) (map : TypeMap) (loop : Loop) (behind kept : Context) → Fine an w s → Runs an w s frame → Held an frame map s
       → Steady (rules_of an frame) loop map → SteadyContext (rules_of an frame) loop kept → IsBelow kept behind
       → Inside frame (nodes_of_loop loop) (stats_of_loop loop) → Placed an frame (seen_in_loop (rules_of an frame) map loop)
-      → Marked an frame (found_in_loop (rules_of an frame) (seen_of an frame) behind kept loop) → LoopStands s.store.heap loop
+      → Marked an frame (found_in_loop (rules_of an frame) (seen_of an frame) behind kept loop)
+      → SparesLoose (rules_of an frame) behind → SparesLoose (rules_of an frame) kept → LoopStands s.store.heap loop
       → (ending : Ending) (t : State) → l.turns frame loop s ≡ Gave ending t
       → Trouble an frame (entry_context (rules_of an frame) (seen_of an frame) behind kept loop) s t ⊎ Violated an frame kept s → EndsBad an frame behind none none ending t
