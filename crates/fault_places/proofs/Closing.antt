@@ -26,7 +26,8 @@ pub record Frame : Type 0 where
   pub bounded : Bounded low
   pub room : low.limit + 3 ≤ high.limit
   pub free : (t : Tok) (m : ℕ) → m ≤ high.limit → high.rules.may_stand t m ≡ true
-  pub calls : (l : ℕ) (t : Tok) → high.rules.may_call l t ≡ true
+  pub calls : (l : ℕ) (t : Tok) → low.rules.may_call l t ≡ true → high.rules.may_call l t ≡ true
+  pub calls_late : (l : ℕ) (t : Tok) → t.span.start ≡ at → high.rules.may_call l t ≡ true
   pub late : CutLate bound cut
 
 abbrev pub place : List Tok → ℕ → ℕ → Place
@@ -104,9 +105,14 @@ module _ (f : Frame) where
     pub ahead : x.1.ahead ≡ f.cut
     pub ends : (new : List Tok) → follow (first_symbol new) → Ends roof shape (shape x.0) r (place (us ++ new) l m) new
 
+  -- closing tokens begin at their offset or behind it
+  abbrev pub Late : (Symbol → Type 0) → (List Tok → List Tok) → Type 0
+  Late follow close = (zs : List Tok) → follow (first_symbol zs) → BeginFrom f.at zs → BeginFrom f.at (close zs)
+
   pub record Closed {A C : Type 0} (follow : Symbol → Type 0) (shape : A → C) (r : Parser A) (us : List Tok) (l m : ℕ) : Type 0 where
     pub close : List Tok → List Tok
     pub kind : C
+    pub late : Late follow close
     pub ends : (zs : List Tok) → follow (first_symbol zs) → Ends roof shape kind r (place (us ++ close zs) l m) zs
 
   -- what the outcome of the first parser says of the other
@@ -142,7 +148,7 @@ module _ (f : Frame) where
       → ((new : List Tok) → r (place (us ++ new) l m) ≡ s (place (vs ++ new) l' m')) → (o : Outcome B) → Claim f follow shape s vs l' m' o → Claim f follow shape r us l m o
   claim_from follow shape r s us vs l m l' m' e (Err d) h = λ k.
       let c = h k in
-      record { close = c.close; kind = c.kind; ends = λ zs fol. ends_from (roof f) shape (c.kind) r s (place (us ++ c.close zs) l m) (place (vs ++ c.close zs) l' m') zs (e (c.close zs)) (c.ends zs fol) }
+      record { close = c.close; kind = c.kind; late = c.late; ends = λ zs fol. ends_from (roof f) shape (c.kind) r s (place (us ++ c.close zs) l m) (place (vs ++ c.close zs) l' m') zs (e (c.close zs)) (c.ends zs fol) }
   claim_from follow shape r s us vs l m l' m' e (Ok x) (inl h) = inl h
   claim_from follow shape r s us vs l m l' m' e (Ok x) (inr (inl h)) =
       inr (inl (record { token = h.token; rest = h.rest; ahead = h.ahead; before = h.before; level = h.level; value = h.value; same = h.same; reads = λ new. e new ∙ h.reads new }))
@@ -167,23 +173,27 @@ module _ (f : Frame) where
     abbrev Quiet : Type 0
     Quiet = (c : C) (d : D) → still c d → ((zs : List Tok) → close c zs ≡ zs) × (d ≡ kind c)
 
+    abbrev Lates : Type 0
+    Lates = (y : A) → Late f G (close (sh y))
+
     ends_then : (a : ℕ) → Reopens a → (c : C) (p : Place) (zs : List Tok) → G (first_symbol zs) → Ends f a sh c s p (close c zs) → Ends f a th (kind c) (s >>= k) p zs
     ends_then a reopens c p zs fol h =
         let o : Ends f a th (kind c) (k h.value) (place (close c zs) h.last h.level) zs =
         subst (λ z. Ends f a th (kind z) (k h.value) (place (close z zs) h.last h.level) zs) h.same ((reopens h.value).opens zs h.last h.level h.low fol) in
         record { value = o.value; last = o.last; level = o.level; low = o.low; same = o.same; reads = ap (λ z. and_then z k) h.reads ∙ o.reads }
 
-    cut_then : Reopens (roof f) → Joins → Quiet → (us : List Tok) (l m : ℕ) (x : A × Place) (o : Outcome B) → Idle f th (still (sh x.0)) o
+    cut_then : Reopens (roof f) → Joins → Quiet → Lates → (us : List Tok) (l m : ℕ) (x : A × Place) (o : Outcome B) → Idle f th (still (sh x.0)) o
         → AtCut f F sh s us l m x → Claim f G th (s >>= k) us l m o
-    cut_then reopens joins quiet us l m x (Err e) i h = λ d.
+    cut_then reopens joins quiet lates us l m x (Err e) i h = λ d.
         record {
           close = close (sh x.0);
           kind = kind (sh x.0);
+          late = λ zs fol b. lates x.0 zs fol b;
           ends = λ zs fol.
               ends_then (roof f) reopens (sh x.0) (place (us ++ close (sh x.0) zs) l m) zs fol (h.ends (close (sh x.0) zs) (joins (sh x.0) zs fol));
         }
-    cut_then reopens joins quiet us l m x (Ok y) (inl i) h = inl i
-    cut_then reopens joins quiet us l m x (Ok y) (inr i) h =
+    cut_then reopens joins quiet lates us l m x (Ok y) (inl i) h = inl i
+    cut_then reopens joins quiet lates us l m x (Ok y) (inr i) h =
         let t = quiet (sh x.0) (th y.0) i.1 in
         inr (inr (record {
           ahead = i.0;
@@ -195,25 +205,28 @@ module _ (f : Frame) where
               (h.ends new (subst (λ z. F (first_symbol z)) e (joins (sh x.0) new fol)))));
         }))
 
-    claim_then : Second → Reopens (roof f) → Joins → Quiet → (us : List Tok) (l m : ℕ) (o : Outcome A) → Claim f F sh s us l m o → Claim f G th (s >>= k) us l m (and_then o g)
-    claim_then second reopens joins quiet us l m (Err e) h = λ d.
+    claim_then : Second → Reopens (roof f) → Joins → Quiet → Lates → (us : List Tok) (l m : ℕ) (o : Outcome A) → Claim f F sh s us l m o → Claim f G th (s >>= k) us l m (and_then o g)
+    claim_then second reopens joins quiet lates us l m (Err e) h = λ d.
         let c = h d in
         record {
           close = λ zs. c.close (close c.kind zs);
           kind = kind c.kind;
+          late = λ zs fol b.
+              let e = c.ends (close c.kind zs) (joins (c.kind) zs fol) in
+              c.late (close c.kind zs) (joins (c.kind) zs fol) (subst (λ z. BeginFrom f.at (close z zs)) e.same (lates e.value zs fol b));
           ends = λ zs fol.
               ends_then (roof f) reopens (c.kind) (place (us ++ c.close (close c.kind zs)) l m) zs fol (c.ends (close c.kind zs) (joins (c.kind) zs fol));
         }
-    claim_then second reopens joins quiet us l m (Ok x) (inl h) =
+    claim_then second reopens joins quiet lates us l m (Ok x) (inl h) =
         claim_far G th (s >>= k) us l m (g x.0 x.1) ((second x.0 x.0 refl).far (x.1) h)
-    claim_then second reopens joins quiet us l m (Ok x) (inr (inl h)) =
+    claim_then second reopens joins quiet lates us l m (Ok x) (inr (inl h)) =
         let o = (second x.0 h.value h.same).inside h.token h.rest (x.1.last) (x.1.level) h.level h.before in
         subst (λ z. Claim f G th (s >>= k) us l m (g x.0 z)) (sym (place_of x.1 (h.token ∷ (h.rest ++ f.cut)) h.ahead))
         (claim_from G th (s >>= k) (k h.value) us (h.token ∷ h.rest) l m (x.1.last) (x.1.level) (λ new. ap (λ z. and_then z k) (h.reads new))
         (g x.0 (place (h.token ∷ (h.rest ++ f.cut)) x.1.last x.1.level)) o)
-    claim_then second reopens joins quiet us l m (Ok x) (inr (inr h)) =
+    claim_then second reopens joins quiet lates us l m (Ok x) (inr (inr h)) =
         subst (λ z. Claim f G th (s >>= k) us l m (g x.0 z)) (sym (place_of x.1 f.cut h.ahead))
-        (cut_then reopens joins quiet us l m x (g x.0 (place f.cut x.1.last x.1.level)) ((second x.0 x.0 refl).idle (x.1.last) (x.1.level)) h)
+        (cut_then reopens joins quiet lates us l m x (g x.0 (place f.cut x.1.last x.1.level)) ((second x.0 x.0 refl).idle (x.1.last) (x.1.level)) h)
 
     idle_more : (c : C) → ((d : D) → still c d → stop d) → (o : Outcome B) → Idle f th (still c) o → Idle f th stop o
     idle_more c h (Err e) i = i
@@ -231,10 +244,10 @@ module _ (f : Frame) where
         subst (λ z. Idle f th stop (g x.0 z)) (sym (place_of x.1 f.cut i.0))
         (idle_more (sh x.0) (λ d. stays (sh x.0) d i.1) (g x.0 (place f.cut x.1.last x.1.level)) ((second x.0 x.0 refl).idle (x.1.last) (x.1.level)))
 
-    pub both_by : Goes f F sh stay r s → Second → Reopens (roof f) → Joins → Quiet → ((c : C) (d : D) → stay c → still c d → stop d) → Goes f G th stop (r >>= g) (s >>= k)
-    both_by h second reopens joins quiet stays = record {
+    pub both_by : Goes f F sh stay r s → Second → Reopens (roof f) → Joins → Quiet → ((c : C) (d : D) → stay c → still c d → stop d) → Lates → Goes f G th stop (r >>= g) (s >>= k)
+    both_by h second reopens joins quiet stays lates = record {
       idle = λ l m. idle_then second stays (r (place f.cut l m)) (h.idle l m);
-      inside = λ u us l m b a. claim_then second reopens joins quiet (u ∷ us) l m (r (place (u ∷ (us ++ f.cut)) l m)) (h.inside u us l m b a);
+      inside = λ u us l m b a. claim_then second reopens joins quiet lates (u ∷ us) l m (r (place (u ∷ (us ++ f.cut)) l m)) (h.inside u us l m b a);
       far = λ p b. far_then g (r p) (h.far p b) (λ x. (second x x refl).far);
     }
 

@@ -64,6 +64,7 @@ module _ (f : Frame) where
   told F sh x y kind d e = record {
     goes = value_goes f F sh (λ p. x) (λ p. y) (λ u ts us l m. refl) (λ p q. e ∙ sym d) kind (λ p. d);
     opens = value_opens f (roof f) F sh (λ p. y) kind (λ p. e);
+    late = λ _ _ b. b;
   }
 
   -- a symbol, and one level deeper
@@ -84,7 +85,7 @@ module _ (f : Frame) where
       (λ p. then_then (read.expect f.low x p) (λ _. read.raise f.low) g)
       (λ p. then_then (read.expect f.high x p) (λ _. read.raise f.high) k)
       (both_by f (Unit {0}) B (Unit {0}) D anything G any th never (λ _ _. ⊥) never (read.expect f.low x >>= (λ _. read.raise f.low)) (read.expect f.high x >>= (λ _. read.raise f.high)) g k
-      (λ _. close) (λ _. kind) (deep_symbol x) (λ x y _. (h x y).goes) (λ y. (h y y).opens) (λ _ _ _. tt) (λ _ _ b. absurd b) (λ _ _ _ b. b))
+      (λ _. close) (λ _. kind) (deep_symbol x) (λ x y _. (h x y).goes) (λ y. (h y y).opens) (λ _ _ _. tt) (λ _ _ b. absurd b) (λ _ _ _ b. b) (λ y. (h y y).late))
 
 module _ (f : Frame) (low high : Readers) (held : Held f low high) (local : LocalReaders some_tails low) where
   pub index_goes : (a b : ℕ) (x y : Expr) → Goes f anything sort never (code.index f.low low a x) (code.index f.high high b y)
@@ -99,7 +100,7 @@ module _ (f : Frame) (low high : Readers) (held : Held f low high) (local : Loca
   at_goes a b x y =
       deeper f s.LeftBracket (λ _ _.
       link f (expression_reads f low high held) (λ v w.
-      rest f (symbol_of_it f s.RightBracket (the_sign f.at (codes "]")) refl) (λ _ _.
+      rest f (symbol_of_it f s.RightBracket (the_sign f.at (codes "]")) refl refl) (λ _ _.
       idle f (spanned f anything a b) (λ i j. told f anything sort (tree.the_expr 0 i (tree.At x v)) (tree.the_expr 0 j (tree.At y w)) (true, false) refl refl) (λ _ z. z)) (λ _ z. z))
       (λ _ _. value_bracket))
 
@@ -108,7 +109,7 @@ module _ (f : Frame) (low high : Readers) (held : Held f low high) (local : Loca
   module _ (annotation : Reads f EndsType any (λ zs. zs) tt (λ z. z ≡ tt) (code.var_annotation f.low low) (code.var_annotation f.high high)) where
     varparam_reads : Reads f EndsType any (λ zs. the_sign f.at (codes "...") ∷ zs) tt never (code.varparam f.low low) (code.varparam f.high high)
     unfolding code.varparam same symbol_of
-    varparam_reads = rest f (symbol_of_it f s.Dots (the_sign f.at (codes "...")) refl) (λ _ _. annotation) (λ _ _. tt)
+    varparam_reads = rest f (symbol_of_it f s.Dots (the_sign f.at (codes "...")) refl refl) (λ _ _. annotation) (λ _ _. tt)
 
     rest_parameter_reads : (x y : Parameters) → Reads f EndsType opens_more (λ zs. the_sign f.at (codes "...") ∷ zs) false never (code.rest_parameter f.low low x) (code.rest_parameter f.high high y)
     unfolding code.rest_parameter
@@ -127,7 +128,7 @@ module _ (f : Frame) (low high : Readers) (held : Held f low high) (local : Loca
 
     another_parameter_reads : (x y : Parameters) → Reads f EndsType opens_more (λ zs. the_sign f.at (codes ",") ∷ the_name f.at ∷ zs) true never (code.another_parameter f.low low x) (code.another_parameter f.high high y)
     unfolding code.another_parameter same symbol_of
-    another_parameter_reads x y = link f (symbol_of_it f s.Comma (the_sign f.at (codes ",")) refl) (λ _ _. parameter_reads x y) (λ _ _. tt)
+    another_parameter_reads x y = link f (symbol_of_it f s.Comma (the_sign f.at (codes ",")) refl refl) (λ _ _. parameter_reads x y) (λ _ _. tt)
 
     parameters_from_reads : (x y : Parameters) → opens_more y ≡ opens_more x
         → Reads f (EndsList EndsType) opens_more (λ zs. zs) (opens_more x) (λ z. z ≡ opens_more x) (code.parameters_from f.low low x) (code.parameters_from f.high high y)
@@ -144,8 +145,9 @@ module _ (f : Frame) (low high : Readers) (held : Held f low high) (local : Loca
         → Reads f G any first tt never (r >>= g) (s >>= k)
     rest_by {A = A} {B = B} {C = C} {F = F} {G = G} {sh = sh} {first = first} {r = r} {s = s} {g = g} {k = k} h second joins = record {
       goes = both_by f A B C (Unit {0}) F G sh any never (λ _ z. z ≡ tt) never r s g k (λ _ zs. zs) (λ _. tt) h.goes (λ x y e. (second x y e).goes) (λ y. (second y y refl).opens)
-          (λ _ zs. joins (first_symbol zs)) (λ _ _ e. ((λ zs. refl), e)) (λ _ _ b _. b);
+          (λ _ zs. joins (first_symbol zs)) (λ _ _ e. ((λ zs. refl), e)) (λ _ _ b _. b) (λ _ _ _ b. b);
       opens = opens_by f A B C (Unit {0}) F G sh any never (λ _ z. z ≡ tt) never r s g k (λ _ zs. zs) (λ _. tt) h.opens (λ y. (second y y refl).opens) (λ _ zs. joins (first_symbol zs));
+      late = λ zs fol. h.late zs (joins (first_symbol zs) fol);
     }
 
     some_parameters_reads : Reads f (EndsList EndsType) any (λ zs. the_name f.at ∷ zs) tt never (code.some_parameters f.low low) (code.some_parameters f.high high)
@@ -153,7 +155,7 @@ module _ (f : Frame) (low high : Readers) (held : Held f low high) (local : Loca
     some_parameters_reads =
         rest_by (parameter_reads no_parameters no_parameters) (λ x y e.
         let h = parameters_from_reads x y e in
-        record { goes = forget f (λ d _. refl) h.goes; opens = forget_opens f h.opens }) (λ x z. z.one)
+        record { goes = forget f (λ d _. refl) h.goes; opens = forget_opens f h.opens; late = h.late }) (λ x z. z.one)
 
     parameters_reads : Reads f AtParen any (λ zs. zs) tt (λ z. z ≡ tt) (code.parameters f.low low) (code.parameters f.high high)
     unfolding code.parameters
@@ -161,6 +163,7 @@ module _ (f : Frame) (low high : Readers) (held : Held f low high) (local : Loca
       goes = choose_goes f (sees s.RightParen) (peek_sees s.RightParen) (given f AtParen no_parameters no_parameters).goes
           (settle f (λ d b. absurd b) (fitted f (λ x z. z.list) some_parameters_reads).goes);
       opens = this_opens f {close = λ zs. zs} (sees s.RightParen) (code.some_parameters f.high high) (λ zs l m h. sees_first s.RightParen zs l m ∙ h.sees) (given f AtParen no_parameters no_parameters).opens;
+      late = λ _ _ b. b;
     }
 
     module _ (result : Reads f EndsType any (λ zs. the_name f.at ∷ zs) tt never (types.result f.low low) (types.result f.high high))
@@ -169,7 +172,7 @@ module _ (f : Frame) (low high : Readers) (held : Held f low high) (local : Loca
       unfolding code.maybe_result same symbol_of
       maybe_result_reads =
           if_seen f (sees s.Colon) (peek_sees s.Colon) (λ zs l m z. sees_first s.Colon zs l m ∙ z.colon)
-          (link f (symbol_of_it f s.Colon (the_sign f.at (codes ":")) refl) (λ _ _.
+          (link f (symbol_of_it f s.Colon (the_sign f.at (codes ":")) refl refl) (λ _ _.
           rest f result (λ x y. given f EndsType (tree.a_type x) (tree.a_type y)) (λ _ z. z)) (λ _ _. tt))
           (given f EndsType tree.no_type tree.no_type)
 
@@ -179,12 +182,12 @@ module _ (f : Frame) (low high : Readers) (held : Held f low high) (local : Loca
       body_reads m n =
           link f (at_start f anything) (λ a b.
           link f generics (λ g h.
-          link f (symbol_of_it f s.LeftParen (the_sign f.at (codes "(")) refl) (λ _ _.
+          link f (symbol_of_it f s.LeftParen (the_sign f.at (codes "(")) refl refl) (λ _ _.
           link f parameters_reads (λ x y.
-          link f (symbol_of_it f s.RightParen (the_sign f.at (codes ")")) refl) (λ _ _.
+          link f (symbol_of_it f s.RightParen (the_sign f.at (codes ")")) refl refl) (λ _ _.
           link f maybe_result_reads (λ r t.
           link f (block_reads f low high held) (λ v w.
-          rest f (symbol_of_it f s.End (the_word f.at (codes "end")) refl) (λ _ _.
+          rest f (symbol_of_it f s.End (the_word f.at (codes "end")) refl refl) (λ _ _.
           idle f (spanned f anything a b) (λ i j.
           given f anything (tree.the_body 0 (is_some m) g (binds (with_self m x.found)) x.rest r v i) (tree.the_body 0 (is_some n) h (binds (with_self n y.found)) y.rest t w j)) (λ _ z. z)) (λ _ z. z))
           (λ _ _. block_end)) (λ _ _. block_end.value.typ)) (λ _ _. tt)) (λ _ _. at_paren)) (λ _ _. tt)) (λ _ _. refl)) (λ _ _. tt)

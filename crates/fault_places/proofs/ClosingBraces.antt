@@ -57,7 +57,7 @@ module _ (f : Frame) where
   unfolding types.separator sees symbol
   separator_reads =
       if_seen f sees_separator (λ u ts us l m. refl) (λ zs l m z. neither (same (first_symbol zs) s.Comma) (same (first_symbol zs) s.Semicolon) z.comma z.semicolon)
-      (rest f (token f (the_sign f.at (codes ","))) (λ _ _. told f NoSeparator bit true true true refl refl) (λ _ _. tt))
+      (rest f (token f (the_sign f.at (codes ",")) refl) (λ _ _. told f NoSeparator bit true true true refl refl) (λ _ _. tt))
       (told f NoSeparator bit false false false refl refl)
 
   module _ {A : Type 0} (G : Symbol → Type 0) (close : List Tok → List Tok) (item other : Parser A) (local : Local some_tails 1 item) (h : Reads f G any close tt never item other) where
@@ -70,11 +70,12 @@ module _ (f : Frame) where
           (with_more found x) (with_more more y) (λ _ zs. zs) (λ c. c) separator_reads.goes
           (λ a b e. (told f NoSeparator going (record { items = found.items ++ x ∷ []; open_ended = a }) (record { items = more.items ++ y ∷ []; open_ended = b }) a refl e).goes)
           (λ b. (told f NoSeparator going (record { items = more.items ++ y ∷ []; open_ended = b }) (record { items = more.items ++ y ∷ []; open_ended = b }) b refl refl).opens)
-          (λ _ zs z. z) (λ c d e. ((λ zs. refl), e)) (λ c d p q. q ∙ p);
+          (λ _ zs z. z) (λ c d e. ((λ zs. refl), e)) (λ c d p q. q ∙ p) (λ _ _ _ b. b);
       opens = opens_by f Bool (Braced A) Bool Bool NoSeparator NoSeparator bit going (λ z. z ≡ false) (λ c d. d ≡ c) (λ z. z ≡ false) (types.separator f.low) (types.separator f.high)
           (with_more found x) (with_more more y) (λ _ zs. zs) (λ c. c) separator_reads.opens
           (λ b. (told f NoSeparator going (record { items = more.items ++ y ∷ []; open_ended = b }) (record { items = more.items ++ y ∷ []; open_ended = b }) b refl refl).opens)
           (λ _ zs z. z);
+      late = λ _ _ b. b;
     }
 
     one_reads : (found more : Braced A) → Reads f (EndsItem G) going close false never (types.one_braced f.low item found) (types.one_braced f.high other more)
@@ -88,7 +89,7 @@ module _ (f : Frame) where
         (λ y zs l m z. and_not (going y) (sees s.RightBrace (place zs l m)) (sees_first s.RightBrace zs l m ∙ z.brace)) (λ x z. z.item)
         (λ x. (locals.one_braced_local f.low {w = some_tails} local x).takes)
         (record { items = []; open_ended = true }) (record { items = []; open_ended = true }) refl true refl in
-        record { goes = forget f (λ d _. refl) all.goes; opens = forget_opens f all.opens }
+        record { goes = forget f (λ d _. refl) all.goes; opens = forget_opens f all.opens; late = all.late }
 
 at_brace : AtBrace EndsValue s.RightBrace
 unfolding same
@@ -106,9 +107,9 @@ module _ (f : Frame) (low high : Readers) (held : Held f low high) (local : Loca
   unfolding code.table same symbol_of
   table_reads n h =
       let leveled : Reads f anything any (λ zs. zs) tt (λ z. z ≡ tt) (set_level n) (set_level n) =
-      record { goes = to_level_goes f anything n h; opens = to_level_opens f (roof f) n (let x : n ≤ roof f = omega arith in x) anything } in
-      link f (symbol_of_it f s.LeftBrace (the_sign f.at (codes "{")) refl) (λ _ _.
+      record { goes = to_level_goes f anything n h; opens = to_level_opens f (roof f) n (let x : n ≤ roof f = omega arith in x) anything; late = λ _ _ b. b } in
+      link f (symbol_of_it f s.LeftBrace (the_sign f.at (codes "{")) refl refl) (λ _ _.
       link f leveled (λ _ _.
       link f fields_reads (λ x y.
-      rest f (symbol_of_it f s.RightBrace (the_sign f.at (codes "}")) refl) (λ _ _. given f anything x y) (λ _ z. z))
+      rest f (symbol_of_it f s.RightBrace (the_sign f.at (codes "}")) refl refl) (λ _ _. given f anything x y) (λ _ z. z))
       (λ _ _. at_brace)) (λ _ _. tt)) (λ _ _. tt)

@@ -56,7 +56,7 @@ module _ (f : Frame) where
   module _ {A : Type 0} (G : Symbol → Type 0) (close : List Tok → List Tok) (item other : Parser A) (local : Local some_tails 1 item) (h : Reads f G any close tt never item other) where
     one_other : (found more : List A) → Reads f G any (λ zs. the_sign f.at (codes ",") ∷ close zs) tt never (read.another f.low item found) (read.another f.high other more)
     unfolding same symbol_of
-    one_other found more = link f (symbol_of_it f s.Comma (the_sign f.at (codes ",")) refl) (λ _ _. rest f h (λ x y. given f G (found ++ x ∷ []) (more ++ y ∷ [])) (λ x z. z)) (λ zs z. tt)
+    one_other found more = link f (symbol_of_it f s.Comma (the_sign f.at (codes ",")) refl refl) (λ _ _. rest f h (λ x y. given f G (found ++ x ∷ []) (more ++ y ∷ [])) (λ x z. z)) (λ zs z. tt)
 
     pub separated_from_reads : (found more : List A) → Reads f (EndsList G) any (λ zs. zs) tt (λ z. z ≡ tt) (read.separated_from f.low item found) (read.separated_from f.high other more)
     unfolding read.separated_from
@@ -72,12 +72,12 @@ module _ (f : Frame) where
   module _ (low high : Readers) (held : Held low high) where
     pub expression_reads : Reads f EndsValue any (λ zs. the_name f.at ∷ zs) tt never (phrases.expression f.low low) (phrases.expression f.high high)
     unfolding phrases.expression same symbol_of
-    expression_reads = record { goes = phrase_goes f phrases.may_begin_expression held.exp; opens = phrase_opens f phrases.may_begin_expression (held.exp_opens (the_name f.at) refl) }
+    expression_reads = record { goes = phrase_goes f phrases.may_begin_expression held.exp; opens = phrase_opens f phrases.may_begin_expression (held.exp_opens (the_name f.at) refl); late = λ zs fol b. (let x : f.at ≤ f.at = omega arith in x, b) }
 
     pub typ_reads : Reads f EndsType any (λ zs. the_name f.at ∷ zs) tt never (phrases.typ f.low low None) (phrases.typ f.high high None)
     unfolding phrases.typ same symbol_of
-    typ_reads = record { goes = phrase_goes f (phrases.may_begin_type None) held.typ; opens = phrase_opens f (phrases.may_begin_type None) (held.typ_opens (the_name f.at) refl) }
+    typ_reads = record { goes = phrase_goes f (phrases.may_begin_type None) held.typ; opens = phrase_opens f (phrases.may_begin_type None) (held.typ_opens (the_name f.at) refl); late = λ zs fol b. (let x : f.at ≤ f.at = omega arith in x, b) }
 
     pub block_reads : Reads f EndsBlock any (λ zs. zs) tt (λ z. z ≡ tt) (phrases.block f.low low) (phrases.block f.high high)
     unfolding phrases.block
-    block_reads = record { goes = phrase_goes f phrases.may_begin_block held.block; opens = phrase_opens f phrases.may_begin_block held.block_opens }
+    block_reads = record { goes = phrase_goes f phrases.may_begin_block held.block; opens = phrase_opens f phrases.may_begin_block held.block_opens; late = λ _ _ b. b }

@@ -67,7 +67,7 @@ module _ (f : Frame) where
     no_fewer u w vs x l m e h = let k = fewer f [] vs f.cut u w x l m e h in absurd (omega arith)
 
     name_claim : (u : Tok) (l m : ℕ) → m ≤ top f → same (symbol_of u) s.Name ≡ true → (o : Outcome A) → Shorter 1 (place (u ∷ f.cut) l m) o → Claim f F any v (u ∷ []) l m o → Claim f F any chosen (u ∷ []) l m o
-    name_claim u l m b e (Err d) h k = λ _. record { close = λ zs. zs; kind = tt; ends = λ zs fol. (named u e).opens zs l m (let x : m ≤ roof f = omega arith in x) fol }
+    name_claim u l m b e (Err d) h k = λ _. record { close = λ zs. zs; kind = tt; late = λ _ _ b. b; ends = λ zs fol. (named u e).opens zs l m (let x : m ≤ roof f = omega arith in x) fol }
     name_claim u l m b e (Ok x) h (inl k) = inl k
     name_claim u l m b e (Ok x) h (inr (inl k)) = absurd (no_fewer u k.token k.rest x l m k.ahead h)
     name_claim u l m b e (Ok x) h (inr (inr k)) = inr (inr (record { ahead = k.ahead; ends = λ zs fol. (named u e).opens zs l m (let x : m ≤ roof f = omega arith in x) fol }))

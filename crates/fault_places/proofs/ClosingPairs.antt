@@ -1,5 +1,5 @@
 -- The parsers that tell by a name and the token behind it what comes next, up to a refused token.
-use Rattle.std.proofs.Common.{◌≡◌, ℕ, Bool, true, false, ◌&&◌, List, ◌∷◌, refl, sym, ◌∙◌, ap, subst, codes, None, if◌then◌else◌}
+use Rattle.std.proofs.Common.{◌≡◌, ℕ, ◌≤◌, Bool, true, false, ◌&&◌, List, ◌∷◌, refl, sym, ◌∙◌, ap, subst, codes, None, arith, if◌then◌else◌}
 use Rattle.luau_lex.specs.Tokens.{Tok}
 use Rattle.luau_tree.specs.Tree as tree
 use Rattle.luau_grammar.specs.declared.symbol.Symbol.TheVariants as s
@@ -14,7 +14,7 @@ use Rattle.luau_grammar.specs.ReadExpressions as code
 use Rattle.grammar_faults.proofs.LocalTypes as locals
 use Rattle.grammar_faults.proofs.LocalTypes.{LocalReaders}
 use Rattle.grammar_faults.proofs.Local.{least, both, done}
-use Rattle.fault_places.proofs.Closing.{Frame, ApartOf, place, roof, Far, Opens, far_then}
+use Rattle.fault_places.proofs.Closing.{Frame, ApartOf, place, roof, Far, Opens, Goes, far_then, opens_by}
 use Rattle.fault_places.proofs.ClosingTokens.{any, never, phrase_opens, other_opens, under}
 use Rattle.fault_places.proofs.ClosingSteps.{Reads, link, rest}
 use Rattle.fault_places.proofs.ClosingWords.{EndsType, EndsValue, the_name, the_sign}
@@ -71,13 +71,14 @@ module _ (f : Frame) (low high : Readers) (held : Held f low high) (local : Loca
         ((locals.typ_local f.low low some_tails local).takes)
         (under f (λ x z. tt) (generic_pack_reads f low high held local).goes) (typ_reads f low high held).goes;
     opens = var_named (the_name f.at) refl;
+    late = λ zs fol b. (let x : f.at ≤ f.at = omega arith in x, b);
   }
 
   pub var_annotation_reads : Reads f EndsType any (λ zs. zs) tt (λ z. z ≡ tt) (code.var_annotation f.low low) (code.var_annotation f.high high)
   unfolding code.var_annotation same symbol_of
   var_annotation_reads =
       if_seen f (sees s.Colon) (peek_sees s.Colon) (λ zs l m z. sees_first s.Colon zs l m ∙ z.colon)
-      (link f (symbol_of_it f s.Colon (the_sign f.at (codes ":")) refl) (λ _ _.
+      (link f (symbol_of_it f s.Colon (the_sign f.at (codes ":")) refl refl) (λ _ _.
       rest f var_type_reads (λ x y. given f EndsType (tree.a_type x) (tree.a_type y)) (λ _ z. z)) (λ _ _. tt))
       (given f EndsType tree.no_type tree.no_type)
 
@@ -95,10 +96,13 @@ module _ (f : Frame) (low high : Readers) (held : Held f low high) (local : Loca
   behind_reads : (n o : List ℕ) → Reads f EndsValue any (λ zs. the_name f.at ∷ zs) tt never (behind_low n) (phrases.expression f.high high >>= (λ v. pure (tree.Field o v)))
   behind_reads n o = rest f (expression_reads f low high held) (λ x y. given f EndsValue (tree.Field n x) (tree.Field o y)) (λ _ z. z)
 
-  plain_reads : (u : Tok) → same (symbol_of u) s.Name ≡ true → Reads f EndsValue any (λ zs. u ∷ zs) tt never value_low value_high
-  plain_reads u e =
-      let h : Reads f EndsValue any (λ zs. u ∷ zs) tt never (phrases.expression f.low low) (phrases.expression f.high high) = record { goes = (expression_reads f low high held).goes; opens = exp_named u e } in
-      rest f h (λ x y. given f EndsValue (tree.Plain x) (tree.Plain y)) (λ _ z. z)
+  plain_opens : (u : Tok) → same (symbol_of u) s.Name ≡ true → Opens f (roof f) EndsValue any (λ zs. u ∷ zs) tt value_high
+  plain_opens u e =
+      opens_by f tree.Expr tree.Item (Unit {0}) (Unit {0}) EndsValue EndsValue any any never (λ _ _. ⊥) never (phrases.expression f.high high) (phrases.expression f.high high)
+      (λ v. pure (tree.Plain v)) (λ v. pure (tree.Plain v)) (λ _ zs. zs) (λ _. tt) (exp_named u e) (λ y. (given f EndsValue (tree.Plain y) (tree.Plain y)).opens) (λ _ zs z. z)
+
+  plain_goes : Goes f EndsValue any never value_low value_high
+  plain_goes = (rest f (expression_reads f low high held) (λ x y. given f EndsValue (tree.Plain x) (tree.Plain y)) (λ _ z. z)).goes
 
   field_beyond : (u : Tok) (l m : ℕ) → ApartOf f.cut u → same (symbol_of u) s.Name ≡ true → begins_field (place (u ∷ f.cut) l m) ≡ true → Far f (code.field f.low low (place (u ∷ f.cut) l m))
   unfolding code.field sees sees_behind symbol symbol_behind same
@@ -110,7 +114,7 @@ module _ (f : Frame) (low high : Readers) (held : Held f low high) (local : Loca
   item_named : (u : Tok) → same (symbol_of u) s.Name ≡ true → Opens f (roof f) EndsValue any (λ zs. u ∷ zs) tt (λ p. if begins_field p then code.field f.high high p else value_high p)
   unfolding sees sees_behind symbol symbol_behind
   item_named u e =
-      other_opens f {close = λ zs. u ∷ zs} begins_field (code.field f.high high) (λ zs l m z. no_second (same (symbol_of u) s.Name) (same (first_symbol zs) s.Assign) z.typ.assign) (plain_reads u e).opens
+      other_opens f {close = λ zs. u ∷ zs} begins_field (code.field f.high high) (λ zs l m z. no_second (same (symbol_of u) s.Name) (same (first_symbol zs) s.Assign) z.typ.assign) (plain_opens u e)
 
   unkeyed_reads : Reads f EndsValue any (λ zs. the_name f.at ∷ zs) tt never (λ p. if begins_field p then code.field f.low low p else value_low p) (λ p. if begins_field p then code.field f.high high p else value_high p)
   unfolding sees sees_behind symbol symbol_behind same symbol_of
@@ -120,8 +124,9 @@ module _ (f : Frame) (low high : Readers) (held : Held f low high) (local : Loca
         (λ u w ts us l m. refl)
         field_beyond item_named
         ((least 1 refl (both (locals.exp_local f.low low some_tails local) (λ v. done (tree.Plain v)))).takes)
-        (field_reads f low high held local).goes (plain_reads (the_name f.at) refl).goes;
+        (field_reads f low high held local).goes plain_goes;
     opens = item_named (the_name f.at) refl;
+    late = λ zs fol b. (let x : f.at ≤ f.at = omega arith in x, b);
   }
 
   pub item_reads : Reads f EndsValue any (λ zs. the_name f.at ∷ zs) tt never (code.item f.low low) (code.item f.high high)

@@ -6,7 +6,7 @@ use Rattle.luau_grammar.specs.declared.symbol.Symbol.{Symbol}
 use Rattle.luau_grammar.specs.Places.{Place, first_symbol}
 use Rattle.luau_grammar.specs.Reading.{Parser, Outcome, ◌>>=◌, and_then, refuse, repeats, repeat}
 use Rattle.grammar_faults.proofs.Local.{Shorter}
-use Rattle.fault_places.proofs.Closing.{Frame, place, Beyond, Before, top, roof, Far, Ends, Opens, AtCut, Claim, Idle, Goes, far_then, claim_from, claim_far, both_by, opens_by}
+use Rattle.fault_places.proofs.Closing.{Frame, place, Beyond, Before, Late, top, roof, Far, Ends, Opens, AtCut, Claim, Idle, Goes, far_then, claim_from, claim_far, both_by, opens_by}
 use Rattle.fault_places.proofs.ClosingTokens.{any, never, refuses, refused_before, claim_if, idle_if, far_if}
 
 module _ (f : Frame) where
@@ -14,6 +14,7 @@ module _ (f : Frame) where
   pub record Reads {A C : Type 0} (F : Symbol → Type 0) (sh : A → C) (close : List Tok → List Tok) (kind : C) (stay : C → Type 0) (r s : Parser A) : Type 0 where
     pub goes : Goes f F sh stay r s
     pub opens : Opens f (roof f) F sh close kind s
+    pub late : Late f F close
 
 module _ (f : Frame) where
   -- one parser, of whose value nothing is known, and one that takes a token
@@ -22,8 +23,11 @@ module _ (f : Frame) where
       → Reads f G th (λ zs. first (close zs)) kind never (r >>= g) (s >>= k)
   link {A = A} {B = B} {D = D} {F = F} {G = G} {th = th} {first = first} {close = close} {kind = kind} {stay = stay} {r = r} {s = s} {g = g} {k = k} h second joins = record {
     goes = both_by f A B (Unit {0}) D F G any th stay (λ _ _. ⊥) never r s g k (λ _. close) (λ _. kind) h.goes (λ x y _. (second x y).goes) (λ y. (second y y).opens) (λ _. joins)
-        (λ _ _ b. absurd b) (λ _ _ _ b. b);
+        (λ _ _ b. absurd b) (λ _ _ _ b. b) (λ y. (second y y).late);
     opens = opens_by f A B (Unit {0}) D F G any th stay (λ _ _. ⊥) never r s g k (λ _. close) (λ _. kind) h.opens (λ y. (second y y).opens) (λ _. joins);
+    late = λ zs fol b.
+        let e = h.opens.opens (close zs) 0 0 (let x : 0 ≤ roof f = omega arith in x) (joins zs fol) in
+        h.late (close zs) (joins zs fol) ((second e.value e.value).late zs fol b);
   }
 
   -- one that takes a token, and one that may take none
@@ -32,8 +36,9 @@ module _ (f : Frame) where
       → Reads f G th first kind never (r >>= g) (s >>= k)
   rest {A = A} {B = B} {D = D} {F = F} {G = G} {th = th} {first = first} {kind = kind} {r = r} {s = s} {g = g} {k = k} h second joins = record {
     goes = both_by f A B (Unit {0}) D F G any th never (λ _ z. z ≡ kind) never r s g k (λ _ zs. zs) (λ _. kind) h.goes (λ x y _. (second x y).goes) (λ y. (second y y).opens)
-        (λ _ zs. joins (first_symbol zs)) (λ _ _ e. ((λ zs. refl), e)) (λ _ _ b _. b);
+        (λ _ zs. joins (first_symbol zs)) (λ _ _ e. ((λ zs. refl), e)) (λ _ _ b _. b) (λ _ _ _ b. b);
     opens = opens_by f A B (Unit {0}) D F G any th never (λ _ z. z ≡ kind) never r s g k (λ _ zs. zs) (λ _. kind) h.opens (λ y. (second y y).opens) (λ _ zs. joins (first_symbol zs));
+    late = λ zs fol. h.late zs (joins (first_symbol zs) fol);
   }
 
   -- two that may take none
@@ -42,8 +47,9 @@ module _ (f : Frame) where
       → Reads f G th (λ zs. zs) kind (λ z. z ≡ kind) (r >>= g) (s >>= k)
   idle {A = A} {B = B} {D = D} {F = F} {G = G} {th = th} {kind = kind} {r = r} {s = s} {g = g} {k = k} h second joins = record {
     goes = both_by f A B (Unit {0}) D F G any th (λ z. z ≡ tt) (λ _ z. z ≡ kind) (λ z. z ≡ kind) r s g k (λ _ zs. zs) (λ _. kind) h.goes (λ x y _. (second x y).goes) (λ y. (second y y).opens)
-        (λ _ zs. joins (first_symbol zs)) (λ _ _ e. ((λ zs. refl), e)) (λ _ _ _ e. e);
+        (λ _ zs. joins (first_symbol zs)) (λ _ _ e. ((λ zs. refl), e)) (λ _ _ _ e. e) (λ _ _ _ b. b);
     opens = opens_by f A B (Unit {0}) D F G any th (λ z. z ≡ tt) (λ _ z. z ≡ kind) (λ z. z ≡ kind) r s g k (λ _ zs. zs) (λ _. kind) h.opens (λ y. (second y y).opens) (λ _ zs. joins (first_symbol zs));
+    late = λ _ _ b. b;
   }
 
   -- ---- many steps
@@ -133,7 +139,7 @@ module _ (f : Frame) where
     cut_claim : (k : ℕ) (y : S) (u : Tok) (us : List Tok) (l m : ℕ) → ((new : List Tok) → goes y (place (u ∷ (us ++ new)) l m) ≡ true) → (x : S × Place) → AtCut f G sh (high y) (u ∷ us) l m x
         → (o : Outcome S) → Idle f sh (λ c. c ≡ sh x.0) o → Claim f F sh (onward k y) (u ∷ us) l m o
     cut_claim k y u us l m g x h (Err e) i = λ d.
-        record { close = λ zs. zs; kind = sh x.0; ends = λ zs fol. last_step k y (sh x.0) u (us ++ zs) zs l m fol (g zs) (h.ends zs (joins (first_symbol zs) fol)) }
+        record { close = λ zs. zs; kind = sh x.0; late = λ _ _ b. b; ends = λ zs fol. last_step k y (sh x.0) u (us ++ zs) zs l m fol (g zs) (h.ends zs (joins (first_symbol zs) fol)) }
     cut_claim k y u us l m g x h (Ok z) (inl i) = inl i
     cut_claim k y u us l m g x h (Ok z) (inr i) =
         inr (inr (record {
@@ -151,7 +157,7 @@ module _ (f : Frame) where
         → (o : Outcome S) → Shorter 1 (place (u ∷ (us ++ f.cut)) l m) o → Claim f G sh (high y) (u ∷ us) l m o → Claim f F sh (onward k y) (u ∷ us) l m (and_then o (turned n))
     step_claim n again k x y e u us l m b a g (Err d) t h = λ q.
         let c = h q in
-        record { close = c.close; kind = c.kind; ends = λ zs fol. last_step k y (c.kind) u (us ++ c.close zs) zs l m fol (g (c.close zs)) (c.ends zs (joins (first_symbol zs) fol)) }
+        record { close = c.close; kind = c.kind; late = λ zs fol. c.late zs (joins (first_symbol zs) fol); ends = λ zs fol. last_step k y (c.kind) u (us ++ c.close zs) zs l m fol (g (c.close zs)) (c.ends zs (joins (first_symbol zs) fol)) }
     step_claim n again k x y e u us l m b a g (Ok z) t (inl h) = claim_far f F sh (onward k y) (u ∷ us) l m (turned n z.0 z.1) (loop_far n z.0 z.1 h)
     step_claim n again k x y e u us l m b a g (Ok z) t (inr (inl h)) =
         let less = fewer us (h.rest) f.cut u (h.token) z l m h.ahead t in
@@ -198,4 +204,5 @@ module _ (f : Frame) where
       opens = record {
         opens = λ zs l m b fol. record { value = y; last = l; level = m; low = b; same = e ∙ i; reads = stopped (length zs) y (place zs l m) (stops y zs l m fol) };
       };
+      late = λ _ _ b. b;
     }

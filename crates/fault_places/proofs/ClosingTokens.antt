@@ -210,7 +210,7 @@ module _ (f : Frame) where
   settle {sh = sh} {stay = stay} {still = still} {r = r} h k = record { idle = λ l m. settled sh stay still h (r (place f.cut l m)) (k.idle l m); inside = k.inside; far = k.far }
 
   under_claim : {A C : Type 0} (F G : Symbol → Type 0) (sh : A → C) (s : Parser A) → ((x : Symbol) → G x → F x) → (us : List Tok) (l m : ℕ) (o : Outcome A) → Claim f F sh s us l m o → Claim f G sh s us l m o
-  under_claim F G sh s h us l m (Err e) k = λ d. let c = k d in record { close = c.close; kind = c.kind; ends = λ zs fol. c.ends zs (h (first_symbol zs) fol) }
+  under_claim F G sh s h us l m (Err e) k = λ d. let c = k d in record { close = c.close; kind = c.kind; late = λ zs fol. c.late zs (h (first_symbol zs) fol); ends = λ zs fol. c.ends zs (h (first_symbol zs) fol) }
   under_claim F G sh s h us l m (Ok x) (inl k) = inl k
   under_claim F G sh s h us l m (Ok x) (inr (inl k)) = inr (inl k)
   under_claim F G sh s h us l m (Ok x) (inr (inr k)) = inr (inr (record { ahead = k.ahead; ends = λ new fol. k.ends new (h (first_symbol new) fol) }))
@@ -226,7 +226,7 @@ module _ (f : Frame) where
   forget_ends a sh kind s p zs h = record { value = h.value; last = h.last; level = h.level; low = h.low; same = refl; reads = h.reads }
 
   forget_claim : {A C : Type 0} (F : Symbol → Type 0) (sh : A → C) (s : Parser A) (us : List Tok) (l m : ℕ) (o : Outcome A) → Claim f F sh s us l m o → Claim f F any s us l m o
-  forget_claim F sh s us l m (Err e) k = λ d. let c = k d in record { close = c.close; kind = tt; ends = λ zs fol. forget_ends (roof f) sh (c.kind) s (place (us ++ c.close zs) l m) zs (c.ends zs fol) }
+  forget_claim F sh s us l m (Err e) k = λ d. let c = k d in record { close = c.close; kind = tt; late = c.late; ends = λ zs fol. forget_ends (roof f) sh (c.kind) s (place (us ++ c.close zs) l m) zs (c.ends zs fol) }
   forget_claim F sh s us l m (Ok x) (inl k) = inl k
   forget_claim F sh s us l m (Ok x) (inr (inl k)) = inr (inl (record { token = k.token; rest = k.rest; ahead = k.ahead; before = k.before; level = k.level; value = k.value; same = refl; reads = k.reads }))
   forget_claim F sh s us l m (Ok x) (inr (inr k)) = inr (inr (record { ahead = k.ahead; ends = λ new fol. forget_ends (roof f) sh (sh x.0) s (place (us ++ new) l m) new (k.ends new fol) }))
@@ -344,7 +344,7 @@ module _ (f : Frame) where
       → Claim f F sh s us l (m + 1) o → Claim f F sh (phrase f.high may s) us l m (and_then o (λ x q. Ok (x, at_level m q)))
   leveled_claim F sh may s us l m b (Err e) h = λ d.
       let c = h d in
-      record { close = c.close; kind = c.kind; ends = λ zs fol. leveled_ends (roof f) sh (c.kind) may s (us ++ c.close zs) zs l m (fits f m b) (fits_roof f m b) (roof f) (c.ends zs fol) }
+      record { close = c.close; kind = c.kind; late = c.late; ends = λ zs fol. leveled_ends (roof f) sh (c.kind) may s (us ++ c.close zs) zs l m (fits f m b) (fits_roof f m b) (roof f) (c.ends zs fol) }
   leveled_claim F sh may s us l m b (Ok x) (inl h) = inl h
   leveled_claim F sh may s us l m b (Ok x) (inr (inl h)) =
       inr (inl (record {

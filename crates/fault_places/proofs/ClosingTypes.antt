@@ -41,7 +41,7 @@ module _ (f : Frame) (low high : Readers) (held : Held f low high) (local : Loca
   unfolding code.variadic same symbol_of
   variadic_reads =
       link f (at_start f anything) (λ a b.
-      link f (symbol_of_it f s.Dots (the_sign f.at (codes "...")) refl) (λ _ _.
+      link f (symbol_of_it f s.Dots (the_sign f.at (codes "...")) refl refl) (λ _ _.
       rest f (typ_reads f low high held) (λ t u. idle f (spanned f EndsType a b) (λ x y. given f EndsType (tree.the_type x (tree.Variadic t)) (tree.the_type y (tree.Variadic u))) (λ _ z. z)) (λ _ z. z))
       (λ _ _. tt)) (λ _ _. tt)
 
@@ -50,23 +50,23 @@ module _ (f : Frame) (low high : Readers) (held : Held f low high) (local : Loca
   generic_pack_reads =
       link f (at_start f anything) (λ a b.
       link f (a_name f) (λ n o.
-      rest f (symbol_of_it f s.Dots (the_sign f.at (codes "...")) refl) (λ _ _.
+      rest f (symbol_of_it f s.Dots (the_sign f.at (codes "...")) refl refl) (λ _ _.
       idle f (spanned f anything a b) (λ x y. given f anything (tree.the_type x (tree.GenericPack n)) (tree.the_type y (tree.GenericPack o))) (λ _ z. z)) (λ _ z. z))
       (λ _ _. tt)) (λ _ _. tt)
 
   indexer_reads : Reads f anything any (λ zs. the_sign f.at (codes "[") ∷ the_name f.at ∷ the_sign f.at (codes "]") ∷ the_sign f.at (codes ":") ∷ zs) tt never (code.indexer f.low low) (code.indexer f.high high)
   unfolding code.indexer same symbol_of
   indexer_reads =
-      link f (symbol_of_it f s.LeftBracket (the_sign f.at (codes "[")) refl) (λ _ _.
+      link f (symbol_of_it f s.LeftBracket (the_sign f.at (codes "[")) refl refl) (λ _ _.
       link f (typ_reads f low high held) (λ t u.
-      link f (symbol_of_it f s.RightBracket (the_sign f.at (codes "]")) refl) (λ _ _.
-      rest f (symbol_of_it f s.Colon (the_sign f.at (codes ":")) refl) (λ _ _. given f anything (tree.Indexer t) (tree.Indexer u)) (λ _ z. z))
+      link f (symbol_of_it f s.RightBracket (the_sign f.at (codes "]")) refl refl) (λ _ _.
+      rest f (symbol_of_it f s.Colon (the_sign f.at (codes ":")) refl refl) (λ _ _. given f anything (tree.Indexer t) (tree.Indexer u)) (λ _ z. z))
       (λ _ _. tt)) (λ _ _. right_bracket.one)) (λ _ _. tt)
 
   property_name_reads : Reads f anything any (λ zs. the_name f.at ∷ the_sign f.at (codes ":") ∷ zs) tt never (code.property_name f.low low) (code.property_name f.high high)
   unfolding code.property_name same symbol_of
   property_name_reads =
-      link f (a_name f) (λ n o. rest f (symbol_of_it f s.Colon (the_sign f.at (codes ":")) refl) (λ _ _. given f anything (tree.NameKey n) (tree.NameKey o)) (λ _ z. z)) (λ _ _. tt)
+      link f (a_name f) (λ n o. rest f (symbol_of_it f s.Colon (the_sign f.at (codes ":")) refl refl) (λ _ _. given f anything (tree.NameKey n) (tree.NameKey o)) (λ _ z. z)) (λ _ _. tt)
 
   key_reads : Reads f anything any (λ zs. the_name f.at ∷ the_sign f.at (codes ":") ∷ zs) tt never (code.key f.low low) (code.key f.high high)
   unfolding code.key sees symbol same symbol_of
@@ -76,7 +76,7 @@ module _ (f : Frame) (low high : Readers) (held : Held f low high) (local : Loca
   unfolding code.array same symbol_of
   array_reads a b =
       link f (typ_reads f low high held) (λ t u.
-      rest f (symbol_of_it f s.RightBrace (the_sign f.at (codes "}")) refl) (λ _ _.
+      rest f (symbol_of_it f s.RightBrace (the_sign f.at (codes "}")) refl refl) (λ _ _.
       idle f (spanned f anything a b) (λ x y. given f anything (tree.the_type x (tree.Array t)) (tree.the_type y (tree.Array u))) (λ _ z. z)) (λ _ z. z))
       (λ _ _. right_brace.one)
 
@@ -84,10 +84,10 @@ module _ (f : Frame) (low high : Readers) (held : Held f low high) (local : Loca
   unfolding code.typeof_form same symbol_of
   typeof_reads =
       link f (at_start f anything) (λ a b.
-      link f (symbol_of_it f s.Name (the_name f.at) refl) (λ _ _.
-      link f (symbol_of_it f s.LeftParen (the_sign f.at (codes "(")) refl) (λ _ _.
+      link f (symbol_of_it f s.Name (the_name f.at) refl refl) (λ _ _.
+      link f (symbol_of_it f s.LeftParen (the_sign f.at (codes "(")) refl refl) (λ _ _.
       link f (expression_reads f low high held) (λ t u.
-      rest f (symbol_of_it f s.RightParen (the_sign f.at (codes ")")) refl) (λ _ _.
+      rest f (symbol_of_it f s.RightParen (the_sign f.at (codes ")")) refl refl) (λ _ _.
       idle f (spanned f anything a b) (λ x y. given f anything (tree.the_type x (tree.Typeof t)) (tree.the_type y (tree.Typeof u))) (λ _ z. z)) (λ _ z. z))
       (λ _ _. value_paren)) (λ _ _. tt)) (λ _ _. tt)) (λ _ _. tt)
 
@@ -95,7 +95,7 @@ module _ (f : Frame) (low high : Readers) (held : Held f low high) (local : Loca
   unfolding code.word
   word_reads kind =
       link f (at_start f anything) (λ a b.
-      rest f (token f (the_name f.at)) (λ _ _. idle f (spanned f anything a b) (λ x y. given f anything (tree.the_type x kind) (tree.the_type y kind)) (λ _ z. z)) (λ _ z. z)) (λ _ _. tt)
+      rest f (token f (the_name f.at) refl) (λ _ _. idle f (spanned f anything a b) (λ x y. given f anything (tree.the_type x kind) (tree.the_type y kind)) (λ _ z. z)) (λ _ z. z)) (λ _ _. tt)
 
   -- ---- behind results, of which it is known that they can be closed
 
@@ -103,7 +103,7 @@ module _ (f : Frame) (low high : Readers) (held : Held f low high) (local : Loca
     function_behind_reads : (l k : Listed) → Reads f EndsType any (λ zs. the_sign f.at (codes "->") ∷ the_name f.at ∷ zs) tt never (code.function_behind f.low low l) (code.function_behind f.high high k)
     unfolding code.function_behind same symbol_of
     function_behind_reads l k =
-        link f (symbol_of_it f s.Arrow (the_sign f.at (codes "->")) refl) (λ _ _.
+        link f (symbol_of_it f s.Arrow (the_sign f.at (codes "->")) refl refl) (λ _ _.
         rest f result (λ r t. idle f (spanned f EndsType (l.start) (k.start)) (λ x y.
         given f EndsType (tree.the_type x (tree.Func tree.no_gens (types l.types) r)) (tree.the_type y (tree.Func tree.no_gens (types k.types) t))) (λ _ z. z)) (λ _ z. z))
         (λ _ _. tt)
@@ -117,22 +117,23 @@ module _ (f : Frame) (low high : Readers) (held : Held f low high) (local : Loca
           goes = choose_goes f (sees s.Greater) (peek_sees s.Greater) (given f AtGreater tree.no_types tree.no_types).goes (settle f (λ d b. absurd b) several.goes);
           opens = this_opens f {close = λ zs. zs} (sees s.Greater) (read.separated f.high (code.result f.high high) >>= (λ ts. pure (types ts)))
               (λ zs l m h. sees_first s.Greater zs l m ∙ h.sees) (given f AtGreater tree.no_types tree.no_types).opens;
+          late = λ _ _ b. b;
         }
 
     type_arguments_reads : Reads f EndsType any (λ zs. zs) tt (λ z. z ≡ tt) (code.type_arguments f.low low) (code.type_arguments f.high high)
     unfolding code.type_arguments same symbol_of
     type_arguments_reads =
         if_seen f (sees s.Less) (peek_sees s.Less) (λ zs l m h. sees_first s.Less zs l m ∙ h.less)
-        (link f (symbol_of_it f s.Less (the_sign f.at (codes "<")) refl) (λ _ _.
+        (link f (symbol_of_it f s.Less (the_sign f.at (codes "<")) refl refl) (λ _ _.
         link f results_reads (λ x y.
-        rest f (symbol_of_it f s.Greater (the_sign f.at (codes ">")) refl) (λ _ _. given f EndsType x y) (λ _ _. tt))
+        rest f (symbol_of_it f s.Greater (the_sign f.at (codes ">")) refl refl) (λ _ _. given f EndsType x y) (λ _ _. tt))
         (λ _ _. at_greater)) (λ _ _. tt))
         (given f EndsType tree.no_types tree.no_types)
 
     dotted_reads : (a b : ℕ) (n o : List ℕ) → Reads f EndsType any (λ zs. the_sign f.at (codes ".") ∷ the_name f.at ∷ zs) tt never (code.dotted f.low low a n) (code.dotted f.high high b o)
     unfolding code.dotted same symbol_of
     dotted_reads a b n o =
-        link f (symbol_of_it f s.Dot (the_sign f.at (codes ".")) refl) (λ _ _.
+        link f (symbol_of_it f s.Dot (the_sign f.at (codes ".")) refl refl) (λ _ _.
         rest f (a_name f) (λ m q.
         idle f type_arguments_reads (λ x y.
         idle f (spanned f EndsType a b) (λ i j. given f EndsType (tree.the_type i (tree.Named (Some n) m x)) (tree.the_type j (tree.Named (Some o) q y))) (λ _ z. z)) (λ _ z. z))
@@ -158,7 +159,7 @@ module _ (f : Frame) (low high : Readers) (held : Held f low high) (local : Loca
     default_reads may =
         if_seen f (λ p. may && sees s.Assign p) (λ u ts us l m. ap (λ z. may && z) (peek_sees s.Assign u ts us l m))
         (λ zs l m h. and_false may (sees s.Assign (place zs l m)) (sees_first s.Assign zs l m ∙ h.assign))
-        (link f (symbol_of_it f s.Assign (the_sign f.at (codes "=")) refl) (λ _ _.
+        (link f (symbol_of_it f s.Assign (the_sign f.at (codes "=")) refl refl) (λ _ _.
         rest f result (λ x y. given f EndsType (tree.a_type x) (tree.a_type y)) (λ _ z. z)) (λ _ _. tt))
         (given f EndsType tree.no_type tree.no_type)
 
@@ -168,7 +169,7 @@ module _ (f : Frame) (low high : Readers) (held : Held f low high) (local : Loca
         link f (at_start f anything) (λ a b.
         rest f (a_name f) (λ n o.
         idle f (spanned f EndsType a b) (λ i j.
-        idle f (eaten f s.Dots (the_sign f.at (codes "...")) refl) (λ x y.
+        idle f (eaten f s.Dots (the_sign f.at (codes "...")) refl refl) (λ x y.
         idle f (default_reads may) (λ d e. given f EndsType (tree.the_gen n i x d) (tree.the_gen o j y e)) (λ _ z. z)) (λ _ z. z.dots)) (λ _ z. z))
         (λ _ _. tt)) (λ _ _. tt)
 
@@ -176,12 +177,12 @@ module _ (f : Frame) (low high : Readers) (held : Held f low high) (local : Loca
     unfolding code.generics_behind same symbol_of
     generics_behind_reads may =
         link f (separated_reads f EndsType (λ zs. the_name f.at ∷ zs) (code.generic f.low low may) (code.generic f.high high may) (locals.generic_local f.low low some_tails local may) (generic_reads may)) (λ x y.
-        rest f (symbol_of_it f s.Greater (the_sign f.at (codes ">")) refl) (λ _ _. given f anything (gens x) (gens y)) (λ _ z. z))
+        rest f (symbol_of_it f s.Greater (the_sign f.at (codes ">")) refl refl) (λ _ _. given f anything (gens x) (gens y)) (λ _ z. z))
         (λ _ _. at_greater.list)
 
     pub generics_reads : (may : Bool) → Reads f NoLess any (λ zs. zs) tt (λ z. z ≡ tt) (code.generics f.low low may) (code.generics f.high high may)
     unfolding code.generics same symbol_of
     generics_reads may =
         if_seen f (sees s.Less) (peek_sees s.Less) (λ zs l m h. sees_first s.Less zs l m ∙ h)
-        (link f (symbol_of_it f s.Less (the_sign f.at (codes "<")) refl) (λ _ _. fitted f (λ _ _. tt) (generics_behind_reads may)) (λ _ _. tt))
+        (link f (symbol_of_it f s.Less (the_sign f.at (codes "<")) refl refl) (λ _ _. fitted f (λ _ _. tt) (generics_behind_reads may)) (λ _ _. tt))
         (given f NoLess tree.no_gens tree.no_gens)

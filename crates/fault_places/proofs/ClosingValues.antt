@@ -45,7 +45,7 @@ module _ (f : Frame) (low high : Readers) (held : Held f low high) (local : Loca
   attribute_reads : (x y : Unit {0}) → Reads f anything any (λ zs. the_sign f.at (codes "@") ∷ the_name f.at ∷ zs) tt never (code.attribute f.low low x) (code.attribute f.high high y)
   unfolding code.attribute same symbol_of
   attribute_reads x y =
-      rest f (link f (symbol_of_it f s.AtSign (the_sign f.at (codes "@")) refl) (λ _ _. a_name f) (λ _ _. tt)) (λ _ _. given f anything (tt {0}) (tt {0})) (λ _ z. z)
+      rest f (link f (symbol_of_it f s.AtSign (the_sign f.at (codes "@")) refl refl) (λ _ _. a_name f) (λ _ _. tt)) (λ _ _. given f anything (tt {0}) (tt {0})) (λ _ z. z)
 
   pub attributes_reads : Reads f (Unlike s.AtSign) any (λ zs. zs) tt (λ z. z ≡ tt) (code.attributes f.low low) (code.attributes f.high high)
   unfolding code.attributes
@@ -58,7 +58,7 @@ module _ (f : Frame) (low high : Readers) (held : Held f low high) (local : Loca
   unfolding code.annotation same symbol_of
   annotation_reads =
       if_seen f (sees s.Colon) (peek_sees s.Colon) (λ zs l m z. sees_first s.Colon zs l m ∙ z.colon)
-      (link f (symbol_of_it f s.Colon (the_sign f.at (codes ":")) refl) (λ _ _.
+      (link f (symbol_of_it f s.Colon (the_sign f.at (codes ":")) refl refl) (λ _ _.
       rest f (typ_reads f low high held) (λ x y. given f EndsType (tree.a_type x) (tree.a_type y)) (λ _ z. z)) (λ _ _. tt))
       (given f EndsType tree.no_type tree.no_type)
 
@@ -74,10 +74,10 @@ module _ (f : Frame) (low high : Readers) (held : Held f low high) (local : Loca
   pub keyed_reads : Reads f EndsValue any (λ zs. the_sign f.at (codes "[") ∷ the_name f.at ∷ the_sign f.at (codes "]") ∷ the_sign f.at (codes "=") ∷ the_name f.at ∷ zs) tt never (code.keyed f.low low) (code.keyed f.high high)
   unfolding code.keyed same symbol_of
   keyed_reads =
-      link f (symbol_of_it f s.LeftBracket (the_sign f.at (codes "[")) refl) (λ _ _.
+      link f (symbol_of_it f s.LeftBracket (the_sign f.at (codes "[")) refl refl) (λ _ _.
       link f exp (λ k i.
-      link f (symbol_of_it f s.RightBracket (the_sign f.at (codes "]")) refl) (λ _ _.
-      link f (symbol_of_it f s.Assign (the_sign f.at (codes "=")) refl) (λ _ _.
+      link f (symbol_of_it f s.RightBracket (the_sign f.at (codes "]")) refl refl) (λ _ _.
+      link f (symbol_of_it f s.Assign (the_sign f.at (codes "=")) refl refl) (λ _ _.
       rest f exp (λ x y. given f EndsValue (tree.Keyed k x) (tree.Keyed i y)) (λ _ z. z))
       (λ _ _. tt)) (λ _ _. tt)) (λ _ _. value_bracket)) (λ _ _. tt)
 
@@ -85,16 +85,16 @@ module _ (f : Frame) (low high : Readers) (held : Held f low high) (local : Loca
   unfolding code.field same symbol_of
   field_reads =
       link f (a_name f) (λ n o.
-      link f (symbol_of_it f s.Assign (the_sign f.at (codes "=")) refl) (λ _ _.
+      link f (symbol_of_it f s.Assign (the_sign f.at (codes "=")) refl refl) (λ _ _.
       rest f exp (λ x y. given f EndsValue (tree.Field n x) (tree.Field o y)) (λ _ z. z)) (λ _ _. tt)) (λ _ _. tt)
 
   paren_reads : Reads f anything any (λ zs. the_sign f.at (codes "(") ∷ the_name f.at ∷ the_sign f.at (codes ")") ∷ zs) tt never (code.paren f.low low) (code.paren f.high high)
   unfolding code.paren same symbol_of
   paren_reads =
       link f (at_start f anything) (λ a b.
-      link f (symbol_of_it f s.LeftParen (the_sign f.at (codes "(")) refl) (λ _ _.
+      link f (symbol_of_it f s.LeftParen (the_sign f.at (codes "(")) refl refl) (λ _ _.
       link f exp (λ x y.
-      rest f (symbol_of_it f s.RightParen (the_sign f.at (codes ")")) refl) (λ _ _.
+      rest f (symbol_of_it f s.RightParen (the_sign f.at (codes ")")) refl refl) (λ _ _.
       idle f (spanned f anything a b) (λ i j. given f anything (tree.the_expr 0 i (tree.Paren x)) (tree.the_expr 0 j (tree.Paren y))) (λ _ z. z)) (λ _ z. z))
       (λ _ _. value_paren)) (λ _ _. tt)) (λ _ _. tt)
 
@@ -109,25 +109,25 @@ module _ (f : Frame) (low high : Readers) (held : Held f low high) (local : Loca
   unfolding code.primary sees symbol same symbol_of
   primary_reads = either f {close = λ zs. the_name f.at ∷ zs} (sees s.LeftParen) (peek_sees s.LeftParen) (λ zs l m _. refl) paren_reads name_expression_reads
 
-  choice_reads : (word : Symbol) (t : Tok) → same (symbol_of t) word ≡ true
+  choice_reads : (word : Symbol) (t : Tok) → same (symbol_of t) word ≡ true → t.span.start ≡ f.at
       → Reads f EndsValue any (λ zs. t ∷ the_name f.at ∷ the_word f.at (codes "then") ∷ the_name f.at ∷ zs) tt never (code.choice f.low low word) (code.choice f.high high word)
   unfolding code.choice same symbol_of
-  choice_reads word t e =
-      link f (symbol_of_it f word t e) (λ _ _.
+  choice_reads word t e d =
+      link f (symbol_of_it f word t e d) (λ _ _.
       link f exp (λ x y.
-      link f (symbol_of_it f s.Then (the_word f.at (codes "then")) refl) (λ _ _.
+      link f (symbol_of_it f s.Then (the_word f.at (codes "then")) refl refl) (λ _ _.
       rest f exp (λ v w. given f EndsValue (x, v) (y, w)) (λ _ z. z))
       (λ _ _. tt)) (λ _ _. value_then)) (λ _ _. tt)
 
   another_choice_reads : (x y : List (Expr × Expr))
       → Reads f EndsValue any (λ zs. the_word f.at (codes "elseif") ∷ the_name f.at ∷ the_word f.at (codes "then") ∷ the_name f.at ∷ zs) tt never (code.another_choice f.low low x) (code.another_choice f.high high y)
   unfolding code.another_choice same symbol_of
-  another_choice_reads x y = rest f (choice_reads s.ElseIf (the_word f.at (codes "elseif")) refl) (λ v w. given f EndsValue (x ++ v ∷ []) (y ++ w ∷ [])) (λ _ z. z)
+  another_choice_reads x y = rest f (choice_reads s.ElseIf (the_word f.at (codes "elseif")) refl refl) (λ v w. given f EndsValue (x ++ v ∷ []) (y ++ w ∷ [])) (λ _ z. z)
 
   all_choices_reads : Reads f EndsChoice any (λ zs. the_word f.at (codes "if") ∷ the_name f.at ∷ the_word f.at (codes "then") ∷ the_name f.at ∷ zs) tt never (code.all_choices f.low low) (code.all_choices f.high high)
   unfolding code.all_choices same symbol_of
   all_choices_reads =
-      rest f (choice_reads s.If (the_word f.at (codes "if")) refl) (λ x y.
+      rest f (choice_reads s.If (the_word f.at (codes "if")) refl refl) (λ x y.
       idle f (loop_reads f (List (Expr × Expr)) (Unit {0}) EndsChoice EndsValue any (λ _ p. sees s.ElseIf p) (code.another_choice f.low low) (code.another_choice f.high high)
       (λ x y e u ts us l m. peek_sees s.ElseIf u us ts l m) (λ x y e. (another_choice_reads x y).goes) (λ y zs l m z. sees_first s.ElseIf zs l m ∙ z.more) (λ x z. z.value)
       (λ x. (terms.another_choice_local f.low low some_tails local x).takes) (x ∷ []) (y ∷ []) refl tt refl)
@@ -138,11 +138,11 @@ module _ (f : Frame) (low high : Readers) (held : Held f low high) (local : Loca
   unfolding code.if_else same symbol_of
   if_else_reads a b =
       link f all_choices_reads (λ x y.
-      link f (symbol_of_it f s.Else (the_word f.at (codes "else")) refl) (λ _ _.
+      link f (symbol_of_it f s.Else (the_word f.at (codes "else")) refl refl) (λ _ _.
       rest f exp (λ v w. idle f (spanned f EndsValue a b) (λ i j. given f EndsValue (tree.the_expr 0 i (tree.IfElse x v)) (tree.the_expr 0 j (tree.IfElse y w))) (λ _ z. z)) (λ _ z. z))
       (λ _ _. tt)) (λ _ _. choice_else)
 
   word_reads : (a b : ℕ) (kind : ExprKind) → Reads f anything any (λ zs. the_name f.at ∷ zs) tt never (code.word f.low low a kind) (code.word f.high high b kind)
   unfolding code.word
   word_reads a b kind =
-      rest f (token f (the_name f.at)) (λ _ _. idle f (spanned f anything a b) (λ i j. given f anything (tree.the_expr 0 i kind) (tree.the_expr 0 j kind)) (λ _ z. z)) (λ _ z. z)
+      rest f (token f (the_name f.at) refl) (λ _ _. idle f (spanned f anything a b) (λ i j. given f anything (tree.the_expr 0 i kind) (tree.the_expr 0 j kind)) (λ _ z. z)) (λ _ z. z)

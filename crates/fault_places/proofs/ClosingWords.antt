@@ -33,6 +33,8 @@ pub record EndsType (x : Symbol) : Type 0 where
   pub colon : same x s.Colon ≡ false
   pub paren : same x s.LeftParen ≡ false
   pub assign : same x s.Assign ≡ false
+  pub name : same x s.Name ≡ false
+  pub bracket : same x s.LeftBracket ≡ false
 
 -- no expression does
 pub record EndsValue (x : Symbol) : Type 0 where
@@ -54,19 +56,19 @@ pub record EndsValues (x : Symbol) : Type 0 where
 
 pub right_paren : EndsTypes s.RightParen
 unfolding same
-right_paren = record { one = record { question = refl; pipe = refl; ampersand = refl; arrow = refl; less = refl; dot = refl; dots = refl; colon = refl; paren = refl; assign = refl }; comma = refl }
+right_paren = record { one = record { question = refl; pipe = refl; ampersand = refl; arrow = refl; less = refl; dot = refl; dots = refl; colon = refl; paren = refl; assign = refl; name = refl; bracket = refl }; comma = refl }
 
 pub right_bracket : EndsTypes s.RightBracket
 unfolding same
-right_bracket = record { one = record { question = refl; pipe = refl; ampersand = refl; arrow = refl; less = refl; dot = refl; dots = refl; colon = refl; paren = refl; assign = refl }; comma = refl }
+right_bracket = record { one = record { question = refl; pipe = refl; ampersand = refl; arrow = refl; less = refl; dot = refl; dots = refl; colon = refl; paren = refl; assign = refl; name = refl; bracket = refl }; comma = refl }
 
 pub right_brace : EndsTypes s.RightBrace
 unfolding same
-right_brace = record { one = record { question = refl; pipe = refl; ampersand = refl; arrow = refl; less = refl; dot = refl; dots = refl; colon = refl; paren = refl; assign = refl }; comma = refl }
+right_brace = record { one = record { question = refl; pipe = refl; ampersand = refl; arrow = refl; less = refl; dot = refl; dots = refl; colon = refl; paren = refl; assign = refl; name = refl; bracket = refl }; comma = refl }
 
 pub greater : EndsTypes s.Greater
 unfolding same
-greater = record { one = record { question = refl; pipe = refl; ampersand = refl; arrow = refl; less = refl; dot = refl; dots = refl; colon = refl; paren = refl; assign = refl }; comma = refl }
+greater = record { one = record { question = refl; pipe = refl; ampersand = refl; arrow = refl; less = refl; dot = refl; dots = refl; colon = refl; paren = refl; assign = refl; name = refl; bracket = refl }; comma = refl }
 
 pub value_paren : EndsValue s.RightParen
 unfolding same
@@ -82,20 +84,20 @@ value_brace = record { typ = right_brace.one; bracket = refl; brace = refl; text
 
 pub value_then : EndsValue s.Then
 unfolding same
-value_then = record { typ = record { question = refl; pipe = refl; ampersand = refl; arrow = refl; less = refl; dot = refl; dots = refl; colon = refl; paren = refl; assign = refl }; bracket = refl; brace = refl; text = refl; cast = refl; binary = refl }
+value_then = record { typ = record { question = refl; pipe = refl; ampersand = refl; arrow = refl; less = refl; dot = refl; dots = refl; colon = refl; paren = refl; assign = refl; name = refl; bracket = refl }; bracket = refl; brace = refl; text = refl; cast = refl; binary = refl }
 
 pub value_else : EndsValue s.Else
 unfolding same
-value_else = record { typ = record { question = refl; pipe = refl; ampersand = refl; arrow = refl; less = refl; dot = refl; dots = refl; colon = refl; paren = refl; assign = refl }; bracket = refl; brace = refl; text = refl; cast = refl; binary = refl }
+value_else = record { typ = record { question = refl; pipe = refl; ampersand = refl; arrow = refl; less = refl; dot = refl; dots = refl; colon = refl; paren = refl; assign = refl; name = refl; bracket = refl }; bracket = refl; brace = refl; text = refl; cast = refl; binary = refl }
 
 pub value_do : EndsValue s.Do
 unfolding same
-value_do = record { typ = record { question = refl; pipe = refl; ampersand = refl; arrow = refl; less = refl; dot = refl; dots = refl; colon = refl; paren = refl; assign = refl }; bracket = refl; brace = refl; text = refl; cast = refl; binary = refl }
+value_do = record { typ = record { question = refl; pipe = refl; ampersand = refl; arrow = refl; less = refl; dot = refl; dots = refl; colon = refl; paren = refl; assign = refl; name = refl; bracket = refl }; bracket = refl; brace = refl; text = refl; cast = refl; binary = refl }
 
 pub value_comma : EndsValue s.Comma
 unfolding same
-value_comma = record { typ = record { question = refl; pipe = refl; ampersand = refl; arrow = refl; less = refl; dot = refl; dots = refl; colon = refl; paren = refl; assign = refl }; bracket = refl; brace = refl; text = refl; cast = refl; binary = refl }
+value_comma = record { typ = record { question = refl; pipe = refl; ampersand = refl; arrow = refl; less = refl; dot = refl; dots = refl; colon = refl; paren = refl; assign = refl; name = refl; bracket = refl }; bracket = refl; brace = refl; text = refl; cast = refl; binary = refl }
 
 pub type_in : EndsType s.In
 unfolding same
-type_in = record { question = refl; pipe = refl; ampersand = refl; arrow = refl; less = refl; dot = refl; dots = refl; colon = refl; paren = refl; assign = refl }
+type_in = record { question = refl; pipe = refl; ampersand = refl; arrow = refl; less = refl; dot = refl; dots = refl; colon = refl; paren = refl; assign = refl; name = refl; bracket = refl }
