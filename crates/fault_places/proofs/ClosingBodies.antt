@@ -50,7 +50,7 @@ and_no : (a b : Bool) → b ≡ false → (a && b) ≡ false
 and_no true b h = h
 and_no false b h = refl
 
-then_if : {A B : Type 0} (b : Bool) (o r : Outcome A) (g : A → Parser B) → and_then (if b then o else r) g ≡ (if b then and_then o g else and_then r g)
+pub then_if : {A B : Type 0} (b : Bool) (o r : Outcome A) (g : A → Parser B) → and_then (if b then o else r) g ≡ (if b then and_then o g else and_then r g)
 then_if true o r g = refl
 then_if false o r g = refl
 

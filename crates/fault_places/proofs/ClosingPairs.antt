@@ -25,31 +25,31 @@ use Rattle.fault_places.proofs.ClosingNames.{seen_far, first_far, either_by_two}
 use Rattle.fault_places.proofs.ClosingTypes.{generic_pack_reads}
 use Rattle.fault_places.proofs.ClosingValues.{field_reads, keyed_reads}
 
-second : (a b : Bool) → (a && b) ≡ true → b ≡ true
+pub second : (a b : Bool) → (a && b) ≡ true → b ≡ true
 second true b h = h
 second false b h = absurd (cc)
 
-no_second : (a b : Bool) → b ≡ false → (a && b) ≡ false
+pub no_second : (a b : Bool) → b ≡ false → (a && b) ≡ false
 no_second true b h = h
 no_second false b h = refl
 
 module _ (f : Frame) where
-  name_far : {B : Type 0} (u : Tok) (l m : ℕ) → ApartOf f.cut u → (h : List ℕ → Parser B) → Far f (h u.bytes (place f.cut u.span.end m)) → Far f ((read.name f.low >>= h) (place (u ∷ f.cut) l m))
+  pub name_far : {B : Type 0} (u : Tok) (l m : ℕ) → ApartOf f.cut u → (h : List ℕ → Parser B) → Far f (h u.bytes (place f.cut u.span.end m)) → Far f ((read.name f.low >>= h) (place (u ∷ f.cut) l m))
   unfolding read.name
   name_far u l m a h k =
       subst (λ o. Far f o) (then_then (read.expect f.low s.Name (place (u ∷ f.cut) l m)) (λ t. pure t.bytes) h)
       (first_far f s.Name u l m a (λ t. h t.bytes) k)
 
 module _ (f : Frame) (low high : Readers) (held : Held f low high) (local : LocalReaders some_tails low) where
-  typ_named : (u : Tok) → same (symbol_of u) s.Name ≡ true → Opens f (roof f) EndsType any (λ zs. u ∷ zs) tt (phrases.typ f.high high None)
+  pub typ_named : (u : Tok) → same (symbol_of u) s.Name ≡ true → Opens f (roof f) EndsType any (λ zs. u ∷ zs) tt (phrases.typ f.high high None)
   unfolding phrases.typ
   typ_named u e = phrase_opens f (phrases.may_begin_type None) (held.typ_opens u e)
 
-  exp_named : (u : Tok) → same (symbol_of u) s.Name ≡ true → Opens f (roof f) EndsValue any (λ zs. u ∷ zs) tt (phrases.expression f.high high)
+  pub exp_named : (u : Tok) → same (symbol_of u) s.Name ≡ true → Opens f (roof f) EndsValue any (λ zs. u ∷ zs) tt (phrases.expression f.high high)
   unfolding phrases.expression
   exp_named u e = phrase_opens f phrases.may_begin_expression (held.exp_opens u e)
 
-  pack_beyond : (u : Tok) (l m : ℕ) → ApartOf f.cut u → same (symbol_of u) s.Name ≡ true → sees_pack (place (u ∷ f.cut) l m) ≡ true → Far f (types.generic_pack f.low low (place (u ∷ f.cut) l m))
+  pub pack_beyond : (u : Tok) (l m : ℕ) → ApartOf f.cut u → same (symbol_of u) s.Name ≡ true → sees_pack (place (u ∷ f.cut) l m) ≡ true → Far f (types.generic_pack f.low low (place (u ∷ f.cut) l m))
   unfolding types.generic_pack sees sees_behind symbol symbol_behind start_of same
   pack_beyond u l m a e d =
       name_far f u l m a (λ n. read.expect f.low s.Dots >>= (λ _. read.span_from u.span.start >>= (λ i. pure (tree.the_type i (tree.GenericPack n)))))

@@ -68,7 +68,7 @@ module _ (f : Frame) where
 
   -- ---- refusals
 
-  refused_far : (ts : List Tok) (l m : ℕ) → Beyond f ts → refusal f.low (place ts l m) ≡ fault f → ⊥
+  pub refused_far : (ts : List Tok) (l m : ℕ) → Beyond f ts → refusal f.low (place ts l m) ≡ fault f → ⊥
   unfolding refusal
   refused_far [] l m b = end_apart f.low.len f.bound f.cut b
   refused_far (u ∷ us) l m b = late_apart f.low.len f.bound f.cut u us f.late b
@@ -112,10 +112,10 @@ module _ (f : Frame) where
   unfolding next
   next_high t ts l m h = ap (λ z. if z then Ok (t, behind t ts m) else Err (Nesting t.span.start)) (f.free t m h)
 
-  fits : (m : ℕ) → m ≤ top f → m ≤ f.high.limit
+  pub fits : (m : ℕ) → m ≤ top f → m ≤ f.high.limit
   fits m h = let r = f.room in omega arith
 
-  fits_roof : (m : ℕ) → m ≤ top f → m ≤ roof f
+  pub fits_roof : (m : ℕ) → m ≤ top f → m ≤ roof f
   fits_roof m h = omega arith
 
   taken : (u : Tok) (us : List Tok) (l m : ℕ) → m ≤ top f → Before f us → Claim f anything any (next f.high) (u ∷ us) l m (Ok (u, behind u (us ++ f.cut) m))
@@ -180,7 +180,7 @@ module _ (f : Frame) where
     far = λ p b. far_if f (c p) (r p) (t p) (h.far p b) (k.far p b);
   }
 
-  ends_by : {A C : Type 0} (a : ℕ) (sh : A → C) (kind : C) (r s : Parser A) (p : Place) (zs : List Tok) → r p ≡ s p → Ends f a sh kind s p zs → Ends f a sh kind r p zs
+  pub ends_by : {A C : Type 0} (a : ℕ) (sh : A → C) (kind : C) (r s : Parser A) (p : Place) (zs : List Tok) → r p ≡ s p → Ends f a sh kind s p zs → Ends f a sh kind r p zs
   ends_by a sh kind r s p zs e h = record { value = h.value; last = h.last; level = h.level; low = h.low; same = h.same; reads = e ∙ h.reads }
 
   -- closing tokens go the second way
@@ -360,11 +360,11 @@ module _ (f : Frame) where
   leveled_claim F sh may s us l m b (Ok x) (inr (inr h)) =
       inr (inr (record { ahead = h.ahead; ends = λ new fol. leveled_ends (roof f) sh (sh x.0) may s (us ++ new) new l m (fits f m b) (fits_roof f m b) (roof f) (h.ends new fol) }))
 
-  leveled_idle : {A C : Type 0} (sh : A → C) (stay : C → Type 0) (m : ℕ) (o : Outcome A) → Idle f sh stay o → Idle f sh stay (and_then o (λ x q. Ok (x, at_level m q)))
+  pub leveled_idle : {A C : Type 0} (sh : A → C) (stay : C → Type 0) (m : ℕ) (o : Outcome A) → Idle f sh stay o → Idle f sh stay (and_then o (λ x q. Ok (x, at_level m q)))
   leveled_idle sh stay m (Ok x) h = h
   leveled_idle sh stay m (Err e) h = h
 
-  leveled_far : {A : Type 0} (m : ℕ) (o : Outcome A) → Far f o → Far f (and_then o (λ x q. Ok (x, at_level m q)))
+  pub leveled_far : {A : Type 0} (m : ℕ) (o : Outcome A) → Far f o → Far f (and_then o (λ x q. Ok (x, at_level m q)))
   leveled_far m (Ok x) h = h
   leveled_far m (Err e) h = h
 
@@ -439,7 +439,7 @@ module _ (f : Frame) where
   unfolding raise
   raise_far p b = far_if f (nat_le p.level f.low.limit) (Ok (tt {0}, raised p)) (Err (deep_refusal f.low p)) b (deep_far f p.ahead p.last p.level b)
 
-  idle_of_far : {A C : Type 0} (sh : A → C) (stay : C → Type 0) (o : Outcome A) → Far f o → Idle f sh stay o
+  pub idle_of_far : {A C : Type 0} (sh : A → C) (stay : C → Type 0) (o : Outcome A) → Far f o → Idle f sh stay o
   idle_of_far sh stay (Ok x) h = inl h
   idle_of_far sh stay (Err e) h = tt
 

@@ -37,7 +37,7 @@ and_false true b h = h
 and_false false b h = refl
 
 module _ (f : Frame) (low high : Readers) (held : Held f low high) (local : LocalReaders some_tails low) where
-  variadic_reads : Reads f EndsType any (λ zs. the_sign f.at (codes "...") ∷ the_name f.at ∷ zs) tt never (code.variadic f.low low) (code.variadic f.high high)
+  pub variadic_reads : Reads f EndsType any (λ zs. the_sign f.at (codes "...") ∷ the_name f.at ∷ zs) tt never (code.variadic f.low low) (code.variadic f.high high)
   unfolding code.variadic same symbol_of
   variadic_reads =
       link f (at_start f anything) (λ a b.
@@ -68,11 +68,11 @@ module _ (f : Frame) (low high : Readers) (held : Held f low high) (local : Loca
   property_name_reads =
       link f (a_name f) (λ n o. rest f (symbol_of_it f s.Colon (the_sign f.at (codes ":")) refl refl) (λ _ _. given f anything (tree.NameKey n) (tree.NameKey o)) (λ _ z. z)) (λ _ _. tt)
 
-  key_reads : Reads f anything any (λ zs. the_name f.at ∷ the_sign f.at (codes ":") ∷ zs) tt never (code.key f.low low) (code.key f.high high)
+  pub key_reads : Reads f anything any (λ zs. the_name f.at ∷ the_sign f.at (codes ":") ∷ zs) tt never (code.key f.low low) (code.key f.high high)
   unfolding code.key sees symbol same symbol_of
   key_reads = either f {close = λ zs. the_name f.at ∷ the_sign f.at (codes ":") ∷ zs} (sees s.LeftBracket) (peek_sees s.LeftBracket) (λ zs l m _. refl) indexer_reads property_name_reads
 
-  array_reads : (a b : ℕ) → Reads f anything any (λ zs. the_name f.at ∷ the_sign f.at (codes "}") ∷ zs) tt never (code.array f.low low a) (code.array f.high high b)
+  pub array_reads : (a b : ℕ) → Reads f anything any (λ zs. the_name f.at ∷ the_sign f.at (codes "}") ∷ zs) tt never (code.array f.low low a) (code.array f.high high b)
   unfolding code.array same symbol_of
   array_reads a b =
       link f (typ_reads f low high held) (λ t u.
@@ -80,7 +80,7 @@ module _ (f : Frame) (low high : Readers) (held : Held f low high) (local : Loca
       idle f (spanned f anything a b) (λ x y. given f anything (tree.the_type x (tree.Array t)) (tree.the_type y (tree.Array u))) (λ _ z. z)) (λ _ z. z))
       (λ _ _. right_brace.one)
 
-  typeof_reads : Reads f anything any (λ zs. the_name f.at ∷ the_sign f.at (codes "(") ∷ the_name f.at ∷ the_sign f.at (codes ")") ∷ zs) tt never (code.typeof_form f.low low) (code.typeof_form f.high high)
+  pub typeof_reads : Reads f anything any (λ zs. the_name f.at ∷ the_sign f.at (codes "(") ∷ the_name f.at ∷ the_sign f.at (codes ")") ∷ zs) tt never (code.typeof_form f.low low) (code.typeof_form f.high high)
   unfolding code.typeof_form same symbol_of
   typeof_reads =
       link f (at_start f anything) (λ a b.
@@ -91,7 +91,7 @@ module _ (f : Frame) (low high : Readers) (held : Held f low high) (local : Loca
       idle f (spanned f anything a b) (λ x y. given f anything (tree.the_type x (tree.Typeof t)) (tree.the_type y (tree.Typeof u))) (λ _ z. z)) (λ _ z. z))
       (λ _ _. value_paren)) (λ _ _. tt)) (λ _ _. tt)) (λ _ _. tt)
 
-  word_reads : (kind : TypeKind) → Reads f anything any (λ zs. the_name f.at ∷ zs) tt never (code.word f.low low kind) (code.word f.high high kind)
+  pub word_reads : (kind : TypeKind) → Reads f anything any (λ zs. the_name f.at ∷ zs) tt never (code.word f.low low kind) (code.word f.high high kind)
   unfolding code.word
   word_reads kind =
       link f (at_start f anything) (λ a b.
@@ -100,7 +100,7 @@ module _ (f : Frame) (low high : Readers) (held : Held f low high) (local : Loca
   -- ---- behind results, of which it is known that they can be closed
 
   module _ (result : Reads f EndsType any (λ zs. the_name f.at ∷ zs) tt never (code.result f.low low) (code.result f.high high)) where
-    function_behind_reads : (l k : Listed) → Reads f EndsType any (λ zs. the_sign f.at (codes "->") ∷ the_name f.at ∷ zs) tt never (code.function_behind f.low low l) (code.function_behind f.high high k)
+    pub function_behind_reads : (l k : Listed) → Reads f EndsType any (λ zs. the_sign f.at (codes "->") ∷ the_name f.at ∷ zs) tt never (code.function_behind f.low low l) (code.function_behind f.high high k)
     unfolding code.function_behind same symbol_of
     function_behind_reads l k =
         link f (symbol_of_it f s.Arrow (the_sign f.at (codes "->")) refl refl) (λ _ _.
@@ -150,7 +150,7 @@ module _ (f : Frame) (low high : Readers) (held : Held f low high) (local : Loca
     named_behind_reads a b n o =
         if_seen f (sees s.Dot) (peek_sees s.Dot) (λ zs l m h. sees_first s.Dot zs l m ∙ h.dot) (dotted_reads a b n o) (undotted_reads a b n o)
 
-    named_reads : Reads f EndsType any (λ zs. the_name f.at ∷ zs) tt never (code.named f.low low) (code.named f.high high)
+    pub named_reads : Reads f EndsType any (λ zs. the_name f.at ∷ zs) tt never (code.named f.low low) (code.named f.high high)
     unfolding code.named
     named_reads = link f (at_start f anything) (λ a b. rest f (a_name f) (λ n o. named_behind_reads a b n o) (λ _ _. tt)) (λ _ _. tt)
 

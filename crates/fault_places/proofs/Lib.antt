@@ -12,3 +12,5 @@ pub mod ClosingBodies
 pub mod ClosingNames
 pub mod ClosingPairs
 pub mod ClosingBraces
+pub mod ClosingChoices
+pub mod ClosingMembers
