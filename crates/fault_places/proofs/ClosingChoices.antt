@@ -1,16 +1,19 @@
 -- Parsers in a row where a value tells how to go on, choices by two tokens, and levels that are restored.
-use Rattle.std.proofs.Common.{◌≡◌, ℕ, ◌≤◌, Bool, true, false, List, [], ◌∷◌, ◌++◌, refl, sym, ◌∙◌, ap, inl, inr, arith, if◌then◌else◌}
+use Rattle.std.proofs.Common.{◌≡◌, ℕ, ◌≤◌, Bool, true, false, List, [], ◌∷◌, ◌++◌, length, refl, sym, ◌∙◌, ap, inl, inr, arith, if◌then◌else◌}
 use Rattle.std.specs.Prelude.{Ok, Err}
 use Rattle.luau_lex.specs.Tokens.{Tok}
 use Rattle.luau_grammar.specs.declared.symbol.Symbol.{Symbol}
 use Rattle.luau_grammar.specs.declared.symbol.Symbol.TheVariants as s
 use Rattle.luau_grammar.specs.Symbols.{same, symbol_of}
 use Rattle.luau_grammar.specs.Places.{Place, first_symbol, at_level}
+use Rattle.luau_grammar.specs.Reading as read
 use Rattle.luau_grammar.specs.Reading.{Parser, Outcome, ◌>>=◌, and_then}
+use Rattle.luau_grammar.proofs.OperatorSteps.{steps_end}
 use Rattle.grammar_faults.proofs.Local.{Shorter}
 use Rattle.fault_places.proofs.Closing.{Frame, ApartOf, place, Beyond, Before, Late, top, roof, Far, Ends, Opens, Closed, Claim, Idle, Goes, claim_far, claim_from, both_by, opens_by}
-use Rattle.fault_places.proofs.ClosingTokens.{any, never, Peek, claim_if, idle_if, far_if, ends_by, fits_roof, leveled_idle, leveled_far, idle_of_far, other_opens}
+use Rattle.fault_places.proofs.ClosingTokens.{anything, any, never, goes_by, Peek, claim_if, idle_if, far_if, ends_by, fits_roof, leveled_idle, leveled_far, idle_of_far, other_opens}
 use Rattle.fault_places.proofs.ClosingSteps.{Reads, fewer}
+use Rattle.fault_places.proofs.ClosingBodies.{then_then, deep_symbol}
 
 module _ (f : Frame) where
   -- ---- where a value tells how to go on
@@ -45,6 +48,39 @@ module _ (f : Frame) where
   never_then sh th stay g (Err e) h k = tt
   never_then sh th stay g (Ok x) (inl h) k = idle_of_far f th stay (g x.0 x.1) (k x.0 x.1 h)
   never_then sh th stay g (Ok x) (inr h) k = absurd h.1
+
+  -- two that may take none
+  pub idle_goes : {A B D : Type 0} {F G : Symbol → Type 0} {th : B → D} {kind : D} {r s : Parser A} {g k : A → Parser B}
+      → Goes f F any (λ z. z ≡ tt) r s → ((x y : A) → Reads f G th (λ zs. zs) kind (λ z. z ≡ kind) (g x) (k y)) → ((x : Symbol) → G x → F x)
+      → Goes f G th (λ z. z ≡ kind) (r >>= g) (s >>= k)
+  idle_goes {A = A} {B = B} {D = D} {F = F} {G = G} {th = th} {kind = kind} {r = r} {s = s} {g = g} {k = k} h second joins =
+      both_by f A B (Unit {0}) D F G any th (λ z. z ≡ tt) (λ _ z. z ≡ kind) (λ z. z ≡ kind) r s g k (λ _ zs. zs) (λ _. kind) h (λ x y _. (second x y).goes) (λ y. (second y y).opens)
+      (λ _ zs. joins (first_symbol zs)) (λ _ _ e. ((λ zs. refl), e)) (λ _ _ _ e. e) (λ _ _ _ b. b)
+
+  -- what goes on one level deeper, and may take no token
+  pub deeper_rest : {B D : Type 0} {G : Symbol → Type 0} {th : B → D} {kind : D} {g k : Unit {0} → Parser B} (x : Symbol)
+      → ((x y : Unit {0}) → Reads f G th (λ zs. zs) kind (λ z. z ≡ kind) (g x) (k y))
+      → Goes f G th never (read.expect f.low x >>= (λ _. read.raise f.low >>= g)) (read.expect f.high x >>= (λ _. read.raise f.high >>= k))
+  deeper_rest {B = B} {D = D} {G = G} {th = th} {kind = kind} {g = g} {k = k} x h =
+      goes_by f
+      (λ p. then_then (read.expect f.low x p) (λ _. read.raise f.low) g)
+      (λ p. then_then (read.expect f.high x p) (λ _. read.raise f.high) k)
+      (both_by f (Unit {0}) B (Unit {0}) D anything G any th never (λ _ z. z ≡ kind) never (read.expect f.low x >>= (λ _. read.raise f.low)) (read.expect f.high x >>= (λ _. read.raise f.high)) g k
+      (λ _ zs. zs) (λ _. kind) (deep_symbol f x) (λ x y _. (h x y).goes) (λ y. (h y y).opens) (λ _ _ _. tt) (λ _ _ e. ((λ zs. refl), e)) (λ _ _ b _. b) (λ _ _ _ b. b))
+
+  -- ---- closing tokens alone, at each level
+
+  pub opens_link : {A B D : Type 0} {F G : Symbol → Type 0} {th : B → D} {first close : List Tok → List Tok} {kind : D} {s : Parser A} {k : A → Parser B} (a : ℕ)
+      → Opens f a F any first tt s → ((y : A) → Opens f a G th close kind (k y)) → ((zs : List Tok) → G (first_symbol zs) → F (first_symbol (close zs)))
+      → Opens f a G th (λ zs. first (close zs)) kind (s >>= k)
+  opens_link {A = A} {B = B} {D = D} {F = F} {G = G} {th = th} {first = first} {close = close} {kind = kind} {s = s} {k = k} a h second joins =
+      opens_by f A B (Unit {0}) D F G any th never (λ _ _. ⊥) never s s k k (λ _. close) (λ _. kind) h second (λ _. joins)
+
+  pub loop_opens : {S C : Type 0} {F : Symbol → Type 0} (a : ℕ) (sh : S → C) (goes : S → Place → Bool) (step : S → Parser S) (y : S)
+      → ((zs : List Tok) (l m : ℕ) → F (first_symbol zs) → goes y (place zs l m) ≡ false) → Opens f a F sh (λ zs. zs) (sh y) (read.repeat f.high goes step y)
+  loop_opens a sh goes step y stops = record {
+    opens = λ zs l m b fol. record { value = y; last = l; level = m; low = b; same = refl; reads = steps_end f.high goes step (length zs) (place zs l m) y (stops zs l m fol) };
+  }
 
   -- ---- by what the next token says
 

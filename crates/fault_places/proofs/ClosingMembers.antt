@@ -76,7 +76,7 @@ at_paren : AtParen s.RightParen
 unfolding same
 at_paren = record { sees = refl; list = record { one = right_paren.one; comma = right_paren.comma } }
 
-either_no : (a b : Bool) → a ≡ false → b ≡ false → (a || b) ≡ false
+pub either_no : (a b : Bool) → a ≡ false → b ≡ false → (a || b) ≡ false
 either_no true b h k = h
 either_no false b h k = k
 
@@ -119,7 +119,7 @@ module _ (f : Frame) (low high : Readers) (held : Held f low high) (local : Loca
   abbrev named_high : Members → Parser Members
   named_high m = (read.name f.high >> read.expect f.high s.Colon >> pure true) >>= value_high m
 
-  tail_reads : Reads f EndsType any (λ zs. the_name f.at ∷ the_sign f.at (codes "...") ∷ zs) tt never (code.tail f.low low) (code.tail f.high high)
+  pub tail_reads : Reads f EndsType any (λ zs. the_name f.at ∷ the_sign f.at (codes "...") ∷ zs) tt never (code.tail f.low low) (code.tail f.high high)
   unfolding code.tail sees symbol same symbol_of
   tail_reads =
       either f {close = λ zs. the_name f.at ∷ the_sign f.at (codes "...") ∷ zs} (sees s.Dots) (peek_sees s.Dots) (λ zs l m _. refl)
@@ -202,29 +202,31 @@ module _ (f : Frame) (low high : Readers) (held : Held f low high) (local : Loca
   untailed_named y u e =
       other_opens f {close = λ zs. u ∷ zs} begins_named (named_high y) (λ zs l m z. no_second (same (symbol_of u) s.Name) (same (first_symbol zs) s.Colon) z.colon) (value_named y false u e)
 
-  tail_beyond : (x : Members) (u : Tok) (l m : ℕ) → ApartOf f.cut u → same (symbol_of u) s.Name ≡ true → begins_tail (place (u ∷ f.cut) l m) ≡ true
-      → Far f (tail_low x (place (u ∷ f.cut) l m))
+  pub tail_far : (u : Tok) (l m : ℕ) → ApartOf f.cut u → same (symbol_of u) s.Name ≡ true → begins_tail (place (u ∷ f.cut) l m) ≡ true
+      → Far f (code.tail f.low low (place (u ∷ f.cut) l m))
   unfolding code.tail sees sees_behind symbol symbol_behind same
-  tail_beyond x u l m a e d =
+  tail_far u l m a e d =
       let q = place (u ∷ f.cut) l m in
       let n = name_unlike (symbol_of u) s.Dots e refl in
-      far_then f (λ t. pure (with_tail x t)) (code.tail f.low low q)
-      (subst (λ b. Far f (if b then code.variadic f.low low q else code.generic_pack f.low low q)) (sym n)
-      (pack_beyond f low high held local u l m a e (or_second (same (symbol_of u) s.Dots) (same (symbol_of u) s.Name && same (first_symbol f.cut) s.Dots) d n)))
-      (λ _ _ b. b)
+      subst (λ b. Far f (if b then code.variadic f.low low q else code.generic_pack f.low low q)) (sym n)
+      (pack_beyond f low high held local u l m a e (or_second (same (symbol_of u) s.Dots) (same (symbol_of u) s.Name && same (first_symbol f.cut) s.Dots) d n))
 
-  not_tail : (u : Tok) → same (symbol_of u) s.Name ≡ true → (zs : List Tok) (l m : ℕ) → EndsType (first_symbol zs) → begins_tail (place (u ∷ zs) l m) ≡ false
+  tail_beyond : (x : Members) (u : Tok) (l m : ℕ) → ApartOf f.cut u → same (symbol_of u) s.Name ≡ true → begins_tail (place (u ∷ f.cut) l m) ≡ true
+      → Far f (tail_low x (place (u ∷ f.cut) l m))
+  tail_beyond x u l m a e d = far_then f (λ t. pure (with_tail x t)) (code.tail f.low low (place (u ∷ f.cut) l m)) (tail_far u l m a e d) (λ _ _ b. b)
+
+  pub not_tail : (u : Tok) → same (symbol_of u) s.Name ≡ true → (zs : List Tok) (l m : ℕ) → EndsType (first_symbol zs) → begins_tail (place (u ∷ zs) l m) ≡ false
   unfolding sees sees_behind symbol symbol_behind same
   not_tail u e zs l m z =
       either_no (same (symbol_of u) s.Dots) (same (symbol_of u) s.Name && same (first_symbol zs) s.Dots) (name_unlike (symbol_of u) s.Dots e refl)
       (no_second (same (symbol_of u) s.Name) (same (first_symbol zs) s.Dots) z.dots)
 
-  plain_tail : (u : Tok) → same (symbol_of u) s.Name ≡ false → (ts us : List Tok) (l m : ℕ) → begins_tail (place (u ∷ ts) l m) ≡ begins_tail (place (u ∷ us) l m)
+  pub plain_tail : (u : Tok) → same (symbol_of u) s.Name ≡ false → (ts us : List Tok) (l m : ℕ) → begins_tail (place (u ∷ ts) l m) ≡ begins_tail (place (u ∷ us) l m)
   unfolding sees sees_behind symbol symbol_behind
   plain_tail u e ts us l m =
       ap (λ z. same (symbol_of u) s.Dots || (z && same (first_symbol ts) s.Dots)) e ∙ sym (ap (λ z. same (symbol_of u) s.Dots || (z && same (first_symbol us) s.Dots)) e)
 
-  two_tail : (u w : Tok) (ts us : List Tok) (l m : ℕ) → begins_tail (place (u ∷ (w ∷ ts)) l m) ≡ begins_tail (place (u ∷ (w ∷ us)) l m)
+  pub two_tail : (u w : Tok) (ts us : List Tok) (l m : ℕ) → begins_tail (place (u ∷ (w ∷ ts)) l m) ≡ begins_tail (place (u ∷ (w ∷ us)) l m)
   unfolding sees sees_behind symbol symbol_behind
   two_tail u w ts us l m = refl
 

@@ -14,3 +14,4 @@ pub mod ClosingPairs
 pub mod ClosingBraces
 pub mod ClosingChoices
 pub mod ClosingMembers
+pub mod ClosingForms
