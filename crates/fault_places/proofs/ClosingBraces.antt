@@ -53,7 +53,7 @@ abbrev going : {A : Type 0} → Braced A → Bool
 going found = found.open_ended
 
 module _ (f : Frame) where
-  separator_reads : Reads f NoSeparator bit (λ zs. zs) false (λ z. z ≡ false) (types.separator f.low) (types.separator f.high)
+  pub separator_reads : Reads f NoSeparator bit (λ zs. zs) false (λ z. z ≡ false) (types.separator f.low) (types.separator f.high)
   unfolding types.separator sees symbol
   separator_reads =
       if_seen f sees_separator (λ u ts us l m. refl) (λ zs l m z. neither (same (first_symbol zs) s.Comma) (same (first_symbol zs) s.Semicolon) z.comma z.semicolon)

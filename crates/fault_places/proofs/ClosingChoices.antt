@@ -11,7 +11,7 @@ use Rattle.luau_grammar.specs.Reading.{Parser, Outcome, ◌>>=◌, and_then}
 use Rattle.luau_grammar.proofs.OperatorSteps.{steps_end}
 use Rattle.grammar_faults.proofs.Local.{Shorter}
 use Rattle.fault_places.proofs.Closing.{Frame, ApartOf, place, Beyond, Before, Late, top, roof, Far, Ends, Opens, Closed, Claim, Idle, Goes, claim_far, claim_from, both_by, opens_by}
-use Rattle.fault_places.proofs.ClosingTokens.{anything, any, never, goes_by, Peek, claim_if, idle_if, far_if, ends_by, fits_roof, leveled_idle, leveled_far, idle_of_far, other_opens}
+use Rattle.fault_places.proofs.ClosingTokens.{anything, any, never, goes_by, Peek, claim_if, idle_if, far_if, ends_by, fits_roof, leveled_idle, leveled_far, idle_of_far, other_opens, forget, forget_opens}
 use Rattle.fault_places.proofs.ClosingSteps.{Reads, fewer}
 use Rattle.fault_places.proofs.ClosingBodies.{then_then, deep_symbol}
 
@@ -48,6 +48,10 @@ module _ (f : Frame) where
   never_then sh th stay g (Err e) h k = tt
   never_then sh th stay g (Ok x) (inl h) k = idle_of_far f th stay (g x.0 x.1) (k x.0 x.1 h)
   never_then sh th stay g (Ok x) (inr h) k = absurd h.1
+
+  -- of whose value nothing is said
+  pub forget_reads : {A C : Type 0} {F : Symbol → Type 0} {sh : A → C} {close : List Tok → List Tok} {kind : C} {r s : Parser A} → Reads f F sh close kind never r s → Reads f F any close tt never r s
+  forget_reads h = record { goes = forget f (λ d b. b) h.goes; opens = forget_opens f h.opens; late = h.late }
 
   -- two that may take none
   pub idle_goes : {A B D : Type 0} {F G : Symbol → Type 0} {th : B → D} {kind : D} {r s : Parser A} {g k : A → Parser B}

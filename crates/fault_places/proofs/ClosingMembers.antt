@@ -80,11 +80,11 @@ pub either_no : (a b : Bool) → a ≡ false → b ≡ false → (a || b) ≡ fa
 either_no true b h k = h
 either_no false b h k = k
 
-or_second : (a b : Bool) → (a || b) ≡ true → a ≡ false → b ≡ true
+pub or_second : (a b : Bool) → (a || b) ≡ true → a ≡ false → b ≡ true
 or_second true b h k = absurd (cc)
 or_second false b h k = h
 
-is_name : (x : Symbol) → same x s.Name ≡ true → x ≡ s.Name
+pub is_name : (x : Symbol) → same x s.Name ≡ true → x ≡ s.Name
 unfolding same
 is_name x h = same_true the_type tt x s.Name h
 

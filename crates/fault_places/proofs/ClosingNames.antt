@@ -41,7 +41,7 @@ module _ (f : Frame) where
       subst (λ b. Far f (if b then read.next f.low (place f.cut l m) else Err (read.refusal f.low (place f.cut l m)))) (sym d)
       (far_of (read.next f.low (place f.cut l m)) (seen_next f.low f.bound f.cut x l m f.late e d))
 
-  then_far : {A B : Type 0} (b : Bool) (o r : Outcome A) (h : A → Parser B) → Far f (and_then o h) → Far f (and_then r h) → Far f (and_then (if b then o else r) h)
+  pub then_far : {A B : Type 0} (b : Bool) (o r : Outcome A) (h : A → Parser B) → Far f (and_then o h) → Far f (and_then r h) → Far f (and_then (if b then o else r) h)
   then_far true o r h k j = k
   then_far false o r h k j = j
 

@@ -1,7 +1,8 @@
 -- The tokens that close what is open, and what each symbol goes on with.
-use Rattle.std.proofs.Common.{◌≡◌, ℕ, false, List, codes, refl, None}
+use Rattle.std.proofs.Common.{◌≡◌, ℕ, false, List, [], codes, refl, None}
 use Rattle.luau_lex.specs.Tokens.{Tok}
 use Rattle.luau_lex.specs.declared.token.Kind.{Kind}
+use Rattle.luau_lex.specs.declared.token.Kind.TheVariants as kind
 use Rattle.luau_grammar.specs.declared.symbol.Symbol.{Symbol}
 use Rattle.luau_grammar.specs.declared.symbol.Symbol.TheVariants as s
 use Rattle.luau_grammar.specs.Symbols.{same}
@@ -20,6 +21,13 @@ the_sign at bytes = closing at (sign bytes)
 
 abbrev pub the_word : ℕ → List ℕ → Tok
 the_word at bytes = closing at (word bytes)
+
+-- a closing string, and the part that ends an interpolated string
+abbrev pub the_text : ℕ → Tok
+the_text at = record { kind = kind.Quoted; span = record { start = at; end = at }; bytes = [] }
+
+abbrev pub the_last : ℕ → Tok
+the_last at = record { kind = kind.End; span = record { start = at; end = at }; bytes = [] }
 
 -- no type goes on with a symbol
 pub record EndsType (x : Symbol) : Type 0 where

@@ -15,3 +15,4 @@ pub mod ClosingBraces
 pub mod ClosingChoices
 pub mod ClosingMembers
 pub mod ClosingForms
+pub mod ClosingTables
