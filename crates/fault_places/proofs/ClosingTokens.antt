@@ -27,7 +27,7 @@ pub nesting_apart : (len n : ℕ) (cut : List Tok) → Nesting n ≡ fault_of le
 nesting_apart len n [] e = absurd (cc)
 nesting_apart len n (t ∷ ts) e = absurd (cc)
 
-ambiguous_apart : (len n : ℕ) (cut : List Tok) → AmbiguousCall n ≡ fault_of len cut → ⊥
+pub ambiguous_apart : (len n : ℕ) (cut : List Tok) → AmbiguousCall n ≡ fault_of len cut → ⊥
 ambiguous_apart len n [] e = absurd (cc)
 ambiguous_apart len n (t ∷ ts) e = absurd (cc)
 

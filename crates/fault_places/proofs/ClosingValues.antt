@@ -133,7 +133,7 @@ module _ (f : Frame) (low high : Readers) (held : Held f low high) (local : Loca
       (λ x. (terms.another_choice_local f.low low some_tails local x).takes) (x ∷ []) (y ∷ []) refl tt refl)
       (λ v w. given f EndsChoice (choices v) (choices w)) (λ _ z. z)) (λ _ z. z.value)
 
-  if_else_reads : (a b : ℕ) → Reads f EndsValue any
+  pub if_else_reads : (a b : ℕ) → Reads f EndsValue any
       (λ zs. the_word f.at (codes "if") ∷ the_name f.at ∷ the_word f.at (codes "then") ∷ the_name f.at ∷ the_word f.at (codes "else") ∷ the_name f.at ∷ zs) tt never (code.if_else f.low low a) (code.if_else f.high high b)
   unfolding code.if_else same symbol_of
   if_else_reads a b =
@@ -142,7 +142,7 @@ module _ (f : Frame) (low high : Readers) (held : Held f low high) (local : Loca
       rest f exp (λ v w. idle f (spanned f EndsValue a b) (λ i j. given f EndsValue (tree.the_expr 0 i (tree.IfElse x v)) (tree.the_expr 0 j (tree.IfElse y w))) (λ _ z. z)) (λ _ z. z))
       (λ _ _. tt)) (λ _ _. choice_else)
 
-  word_reads : (a b : ℕ) (kind : ExprKind) → Reads f anything any (λ zs. the_name f.at ∷ zs) tt never (code.word f.low low a kind) (code.word f.high high b kind)
+  pub word_reads : (a b : ℕ) (kind : ExprKind) → Reads f anything any (λ zs. the_name f.at ∷ zs) tt never (code.word f.low low a kind) (code.word f.high high b kind)
   unfolding code.word
   word_reads a b kind =
       rest f (token f (the_name f.at) refl) (λ _ _. idle f (spanned f anything a b) (λ i j. given f anything (tree.the_expr 0 i kind) (tree.the_expr 0 j kind)) (λ _ z. z)) (λ _ z. z)

@@ -16,3 +16,5 @@ pub mod ClosingChoices
 pub mod ClosingMembers
 pub mod ClosingForms
 pub mod ClosingTables
+pub mod ClosingArguments
+pub mod ClosingSuffixes
