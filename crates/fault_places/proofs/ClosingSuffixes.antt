@@ -46,7 +46,7 @@ no_suffix zs l m z =
     (either_no (same x s.LeftParen) (same x s.LeftBrace || same x s.Text) z.paren (either_no (same x s.LeftBrace) (same x s.Text) z.brace z.text))
 
 module _ (f : Frame) (low high : Readers) (held : Held f low high) (local : LocalReaders some_tails low) where
-  suffix_goes : (a b : ℕ) (x y : Expr) → Goes f anything sort never (code.suffix f.low low a x) (code.suffix f.high high b y)
+  pub suffix_goes : (a b : ℕ) (x y : Expr) → Goes f anything sort never (code.suffix f.low low a x) (code.suffix f.high high b y)
   unfolding code.suffix
   suffix_goes a b x y =
       choose_goes f (sees s.Dot) (peek_sees s.Dot) (index_goes f low high held local a b x y)
@@ -78,7 +78,7 @@ module _ (f : Frame) (low high : Readers) (held : Held f low high) (local : Loca
       rest f (a_name f) (λ n o.
       idle f (spanned f anything a b) (λ i j. told f anything sort (tree.the_expr 0 i (tree.NameExpr n)) (tree.the_expr 0 j (tree.NameExpr o)) (true, false) refl refl) (λ _ z. z)) (λ _ z. z)) (λ _ _. tt)
 
-  primary_sort : Reads f anything sort (λ zs. the_name f.at ∷ zs) (true, false) never (code.primary f.low low) (code.primary f.high high)
+  pub primary_sort : Reads f anything sort (λ zs. the_name f.at ∷ zs) (true, false) never (code.primary f.low low) (code.primary f.high high)
   unfolding code.primary sees symbol same symbol_of
   primary_sort = either f {close = λ zs. the_name f.at ∷ zs} (sees s.LeftParen) (peek_sees s.LeftParen) (λ zs l m _. refl) paren_sort name_sort
 

@@ -59,7 +59,7 @@ module _ (f : Frame) where
   any_far u l m h k =
       then_far f (f.low.rules.may_stand u m) (Ok (u, behind u f.cut m)) (Err (Nesting u.span.start)) h k (nesting_apart f.low.len u.span.start f.cut)
 
-  turns_far : {S : Type 0} (goes : S → Place → Bool) (step : S → Parser S) → ((x : S) (q : Place) → Beyond f q.ahead → Far f (step x q)) → (n : ℕ) (x : S) (q : Place) → Beyond f q.ahead
+  pub turns_far : {S : Type 0} (goes : S → Place → Bool) (step : S → Parser S) → ((x : S) (q : Place) → Beyond f q.ahead → Far f (step x q)) → (n : ℕ) (x : S) (q : Place) → Beyond f q.ahead
       → Far f (read.repeats f.low goes step n x q)
   unfolding read.repeats
   turns_far {S = S} goes step h zero x q b = far_if f (goes x q) (read.refuse f.low q) (Ok (x, q)) ((refuses f {A = S} anything any never).far q b) b

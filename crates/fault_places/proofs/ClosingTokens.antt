@@ -93,6 +93,21 @@ module _ (f : Frame) where
     far = λ p b. refused_far p.ahead p.last p.level b;
   }
 
+  -- whatever the other parser does
+  pub refuses_with : {A C : Type 0} (F : Symbol → Type 0) (sh : A → C) (stay : C → Type 0) (s : Parser A) → Goes f F sh stay (refuse f.low) s
+  refuses_with F sh stay s = record {
+    idle = λ l m. tt;
+    inside = λ u us l m h b e. absurd (refused_before u (us ++ f.cut) l m b.0 e);
+    far = λ p b. refused_far p.ahead p.last p.level b;
+  }
+
+  pub refuses_deep_with : {A C : Type 0} (F : Symbol → Type 0) (sh : A → C) (stay : C → Type 0) (s : Parser A) → Goes f F sh stay (λ p. Err (deep_refusal f.low p)) s
+  refuses_deep_with F sh stay s = record {
+    idle = λ l m. tt;
+    inside = λ u us l m h b e. absurd (deep_before u (us ++ f.cut) l m e);
+    far = λ p b. deep_far p.ahead p.last p.level b;
+  }
+
   pub refuses_deep : {A C : Type 0} (F : Symbol → Type 0) (sh : A → C) (stay : C → Type 0) → Goes f F sh stay (λ p. Err (deep_refusal f.low p)) (λ p. Err (deep_refusal f.high p))
   refuses_deep F sh stay = record {
     idle = λ l m. tt;
@@ -401,7 +416,7 @@ module _ (f : Frame) where
 
   -- ---- a token, and one level deeper
 
-  raise_high : (ts : List Tok) (l m : ℕ) → m ≤ f.high.limit → raise f.high (place ts l m) ≡ Ok (tt {0}, place ts l (m + 1))
+  pub raise_high : (ts : List Tok) (l m : ℕ) → m ≤ f.high.limit → raise f.high (place ts l m) ≡ Ok (tt {0}, place ts l (m + 1))
   unfolding raise
   raise_high ts l m h = ap (λ z. if z then Ok (tt {0}, place ts l (m + 1)) else Err (deep_refusal f.high (place ts l m))) (le-leb m f.high.limit h)
 

@@ -29,6 +29,19 @@ the_text at = record { kind = kind.Quoted; span = record { start = at; end = at 
 abbrev pub the_last : ℕ → Tok
 the_last at = record { kind = kind.End; span = record { start = at; end = at }; bytes = [] }
 
+abbrev pub the_mid : ℕ → Tok
+the_mid at = record { kind = kind.Mid; span = record { start = at; end = at }; bytes = [] }
+
+abbrev pub the_begin : ℕ → Tok
+the_begin at = record { kind = kind.Begin; span = record { start = at; end = at }; bytes = [] }
+
+abbrev pub the_whole : ℕ → Tok
+the_whole at = record { kind = kind.Whole; span = record { start = at; end = at }; bytes = [] }
+
+-- a closing numeral
+abbrev pub the_number : ℕ → Tok
+the_number at = record { kind = kind.Numeral; span = record { start = at; end = at }; bytes = [] }
+
 -- no type goes on with a symbol
 pub record EndsType (x : Symbol) : Type 0 where
   pub question : same x s.Question ≡ false

@@ -18,3 +18,7 @@ pub mod ClosingForms
 pub mod ClosingTables
 pub mod ClosingArguments
 pub mod ClosingSuffixes
+pub mod ClosingParts
+pub mod ClosingExpressions
+pub mod ClosingOperators
+pub mod ClosingTargets

@@ -134,7 +134,7 @@ module _ (set : Setting) (inner : Readers) (w : Tails) (held : LocalReaders w in
       ∙ ap (λ o. and_then o (repeats set (λ _ p. is_some (code.tighter at p)) (code.climb_step set inner other from) turns))
       (climb_by_same from left (binary_of (symbol p)) p l))
 
-  climb_same : (at : ℕ) (p : Place) → length p.ahead ≤ m + 1 → code.climb set inner one at p ≡ code.climb set inner other at p
+  pub climb_same : (at : ℕ) (p : Place) → length p.ahead ≤ m + 1 → code.climb set inner one at p ≡ code.climb set inner other at p
   unfolding code.climb code.climb_from
   climb_same at p l =
       and_same (code.operand set inner one p)
@@ -151,7 +151,7 @@ module _ (set : Setting) (inner : Readers) (w : Tails) (held : LocalReaders w in
   no_turns m at [] last level l = refl
   no_turns m at (t ∷ ts) last level l = absurd (omega arith)
 
-  one_more_turn : (m at : ℕ) (p : Place) → length p.ahead ≤ m → code.operation set inner m at p ≡ code.operation set inner (suc m) at p
+  pub one_more_turn : (m at : ℕ) (p : Place) → length p.ahead ≤ m → code.operation set inner m at p ≡ code.operation set inner (suc m) at p
   unfolding code.operation
   one_more_turn zero at p l = no_turns 0 at (p.ahead) (p.last) (p.level) l
   one_more_turn (suc m) at p l =
