@@ -33,6 +33,26 @@ use Rattle.fault_places.proofs.ClosingParts.{interpolation_goes, whole_goes}
 use Rattle.fault_places.proofs.ClosingMembers.{either_no}
 use Rattle.fault_places.proofs.ClosingChoices.{by_peek, opens_link, never_then}
 
+-- ---- a name, and nothing more
+
+module _ (f : Frame) (high : Readers) (a : ℕ) (fits : a ≤ peak f) (u : Tok) (e : same (symbol_of u) s.Name ≡ true) where
+  only_simple : Opens f a EndsValue any (λ zs. u ∷ zs) tt (code.simple f.high high)
+  unfolding code.simple sees symbol
+  only_simple =
+      this_opens f {close = λ zs. u ∷ zs} (λ p. sees s.Name p || sees s.LeftParen p) (code.form f.high high) (λ zs l m _. ap (λ z. z || same (symbol_of u) s.LeftParen) e)
+      (under_opens f value_suffix (only_prefix f high a fits u e))
+
+  only_plain : (b : ℕ) (x : Expr) → Opens f a EndsValue any (λ zs. zs) tt (code.asserted f.high high b x)
+  unfolding code.asserted
+  only_plain b x =
+      other_opens f {close = λ zs. zs} (sees s.DoubleColon) (read.expect f.high s.DoubleColon >>= (λ _. phrases.typ f.high high None >>= (λ t. read.span_from b >>= (λ i. pure (tree.the_expr 0 i (tree.Assert x t))))))
+      (λ zs l m z. sees_first s.DoubleColon zs l m ∙ z.cast) (value_opens f a EndsValue any (λ p. x) tt (λ p. refl))
+
+  pub only_assertion : Opens f a EndsValue any (λ zs. u ∷ zs) tt (code.assertion f.high high)
+  unfolding code.assertion
+  only_assertion =
+      opens_link f a (value_opens f a anything any start_of tt (λ p. refl)) (λ b. opens_link f a only_simple (λ x. only_plain b x) (λ _ z. z)) (λ _ _. tt)
+
 module _ (f : Frame) (low high : Readers) (held : Held f low high) (local : LocalReaders some_tails low) (others : LocalReaders some_tails high) where
   pub a_body_reads : (m n : Option Span) → Reads f anything any (λ zs. the_sign f.at (codes "(") ∷ the_sign f.at (codes ")") ∷ the_word f.at (codes "end") ∷ zs) tt never
       (code.body f.low low m) (code.body f.high high n)
@@ -124,23 +144,3 @@ module _ (f : Frame) (low high : Readers) (held : Held f low high) (local : Loca
   pub assertion_reads : Reads f EndsValue any (λ zs. the_name f.at ∷ zs) tt never (code.assertion f.low low) (code.assertion f.high high)
   unfolding code.assertion
   assertion_reads = link f (at_start f anything) (λ a b. rest f simple_reads (λ x y. asserted_reads a b x y) (λ _ z. z)) (λ _ _. tt)
-
-  -- ---- a name, and nothing more
-
-  module _ (a : ℕ) (fits : a ≤ peak f) (u : Tok) (e : same (symbol_of u) s.Name ≡ true) where
-    only_simple : Opens f a EndsValue any (λ zs. u ∷ zs) tt (code.simple f.high high)
-    unfolding code.simple sees symbol
-    only_simple =
-        this_opens f {close = λ zs. u ∷ zs} (λ p. sees s.Name p || sees s.LeftParen p) (code.form f.high high) (λ zs l m _. ap (λ z. z || same (symbol_of u) s.LeftParen) e)
-        (under_opens f value_suffix (only_prefix f low high held local a fits u e))
-
-    only_plain : (b : ℕ) (x : Expr) → Opens f a EndsValue any (λ zs. zs) tt (code.asserted f.high high b x)
-    unfolding code.asserted
-    only_plain b x =
-        other_opens f {close = λ zs. zs} (sees s.DoubleColon) (read.expect f.high s.DoubleColon >>= (λ _. phrases.typ f.high high None >>= (λ t. read.span_from b >>= (λ i. pure (tree.the_expr 0 i (tree.Assert x t))))))
-        (λ zs l m z. sees_first s.DoubleColon zs l m ∙ z.cast) (value_opens f a EndsValue any (λ p. x) tt (λ p. refl))
-
-    pub only_assertion : Opens f a EndsValue any (λ zs. u ∷ zs) tt (code.assertion f.high high)
-    unfolding code.assertion
-    only_assertion =
-        opens_link f a (value_opens f a anything any start_of tt (λ p. refl)) (λ b. opens_link f a only_simple (λ x. only_plain b x) (λ _ z. z)) (λ _ _. tt)

@@ -29,6 +29,83 @@ use Rattle.fault_places.proofs.ClosingTypes.{function_behind_reads, named_reads,
 use Rattle.fault_places.proofs.ClosingChoices.{forget_reads, follow_by, by_two, by_peek, opens_at, opens_link, loop_opens, idle_goes, deeper_rest, restored, restored_opens}
 use Rattle.fault_places.proofs.ClosingMembers.{is_single, listed_reads, tail_reads, tail_far, not_tail, plain_tail, two_tail, either_no, is_name, name_unlike}
 
+no_typeof : (u : Tok) → same (symbol_of u) s.Name ≡ true → (zs : List Tok) (l m : ℕ) → EndsType (first_symbol zs) → sees_typeof (place (u ∷ zs) l m) ≡ false
+unfolding sees sees_behind symbol symbol_behind
+no_typeof u e zs l m z = no_second (sees_word (codes "typeof") (place (u ∷ zs) l m)) (same (first_symbol zs) s.LeftParen) z.paren
+
+-- ---- a name, and nothing more
+
+module _ (f : Frame) (high : Readers) (a : ℕ) (fits : a ≤ peak f) (u : Tok) (e : same (symbol_of u) s.Name ≡ true) where
+  pub only_name : Opens f a anything any (λ zs. u ∷ zs) tt (read.name f.high)
+  unfolding read.name read.expect sees symbol
+  only_name =
+      opens_link f a (this_opens f {close = λ zs. u ∷ zs} (sees s.Name) (read.refuse f.high) (λ zs l m _. e) (next_opens f a fits u))
+      (λ t. value_opens f a anything any (λ p. t.bytes) tt (λ p. refl)) (λ _ _. tt)
+
+  pub only_span : (b : ℕ) (kind : tree.TypeKind) → Opens f a EndsType any (λ zs. zs) tt (read.span_from b >>= (λ i. pure (tree.the_type i kind)))
+  only_span b kind =
+      opens_link f a (value_opens f a EndsType any (λ p. record { start = b; end = p.last }) tt (λ p. refl)) (λ i. value_opens f a EndsType any (λ p. tree.the_type i kind) tt (λ p. refl)) (λ _ z. z)
+
+  no_arguments : Opens f a EndsType any (λ zs. zs) tt (code.type_arguments f.high high)
+  unfolding code.type_arguments
+  no_arguments =
+      other_opens f {close = λ zs. zs} (sees s.Less) (read.expect f.high s.Less >>= (λ _. code.maybe_results f.high high >>= (λ ts. read.expect f.high s.Greater >>= (λ _. pure ts))))
+      (λ zs l m z. sees_first s.Less zs l m ∙ z.less) (value_opens f a EndsType any (λ p. tree.no_types) tt (λ p. refl))
+
+  only_undotted : (b : ℕ) (n : List ℕ) → Opens f a EndsType any (λ zs. zs) tt (code.undotted f.high high b n)
+  unfolding code.undotted
+  only_undotted b n = opens_link f a no_arguments (λ x. only_span b (tree.Named None n x)) (λ _ z. z)
+
+  only_behind : (b : ℕ) (n : List ℕ) → Opens f a EndsType any (λ zs. zs) tt (code.named_behind f.high high b n)
+  unfolding code.named_behind
+  only_behind b n = other_opens f {close = λ zs. zs} (sees s.Dot) (code.dotted f.high high b n) (λ zs l m z. sees_first s.Dot zs l m ∙ z.dot) (only_undotted b n)
+
+  only_named : Opens f a EndsType any (λ zs. u ∷ zs) tt (code.named f.high high)
+  unfolding code.named
+  only_named =
+      opens_link f a (value_opens f a anything any start_of tt (λ p. refl)) (λ b. opens_link f a only_name (λ n. only_behind b n) (λ _ _. tt)) (λ _ _. tt)
+
+  only_name_form : Opens f a EndsType any (λ zs. u ∷ zs) tt (code.name_form f.high high)
+  unfolding code.name_form
+  only_name_form = other_opens f {close = λ zs. u ∷ zs} sees_typeof (code.typeof_form f.high high) (no_typeof u e) only_named
+
+  only_form : Opens f a EndsType any (λ zs. u ∷ zs) tt (code.form f.high high)
+  unfolding code.form symbol
+  only_form = opens_at f {close = λ zs. u ∷ zs} symbol (code.form_by f.high high) s.Name (λ zs l m _. is_name (symbol_of u) e) only_name_form
+
+  only_basic : Opens f a EndsType any (λ zs. u ∷ zs) tt (code.basic f.high high None)
+  unfolding code.basic sees symbol same
+  only_basic =
+      other_opens f {close = λ zs. u ∷ zs} (sees s.LeftParen) (code.listed f.high high >>= code.listed_type f.high high) (λ zs l m _. name_unlike (symbol_of u) s.LeftParen e refl) only_form
+
+  no_marks : (b : ℕ) (t : TypeSyntax) → Opens f a EndsType any (λ zs. zs) tt (code.marks f.high high b t)
+  unfolding code.marks code.all_marks
+  no_marks b t = restored_opens f (loop_opens f a any goes_marks (code.mark f.high high b) t (λ zs l m z. sees_first s.Question zs l m ∙ z.question))
+
+  only_option : Opens f a EndsType any (λ zs. u ∷ zs) tt (code.option f.high high None)
+  unfolding code.option
+  only_option =
+      opens_link f a (value_opens f a anything any start_of tt (λ p. refl)) (λ b. opens_link f a only_basic (λ t. no_marks b t) (λ _ z. z)) (λ _ _. tt)
+
+  only_first : (b : ℕ) (t : TypeSyntax) → Opens f a EndsType any (λ zs. zs) tt (code.joined f.high high b t)
+  unfolding code.joined
+  only_first b t =
+      other_opens f {close = λ zs. zs} (sees s.Pipe) (code.union_behind f.high high b t) (λ zs l m z. sees_first s.Pipe zs l m ∙ z.pipe)
+      (other_opens f {close = λ zs. zs} (sees s.Ampersand) (code.meet_behind f.high high b t) (λ zs l m z. sees_first s.Ampersand zs l m ∙ z.ampersand)
+      (value_opens f a EndsType any (λ p. t) tt (λ p. refl)))
+
+  no_bar : Opens f a (λ x. same x s.Name ≡ true) any (λ zs. zs) tt (code.bar f.high high None)
+  unfolding code.bar sees symbol same
+  no_bar =
+      other_opens f {close = λ zs. zs} (λ p. sees s.Pipe p || sees s.Ampersand p) (read.next f.high >>= (λ _. pure tt))
+      (λ zs l m z. either_no (same (first_symbol zs) s.Pipe) (same (first_symbol zs) s.Ampersand) (name_unlike (first_symbol zs) s.Pipe z refl) (name_unlike (first_symbol zs) s.Ampersand z refl))
+      (value_opens f a (λ x. same x s.Name ≡ true) any (λ p. tt {0}) tt (λ p. refl))
+
+  pub only_type : Opens f a EndsType any (λ zs. u ∷ zs) tt (code.type_inside f.high high None)
+  unfolding code.type_inside
+  only_type =
+      opens_link f a no_bar (λ _. opens_link f a (value_opens f a anything any start_of tt (λ p. refl)) (λ b. opens_link f a only_option (λ t. only_first b t) (λ _ z. z)) (λ _ _. tt)) (λ _ _. e)
+
 module _ (f : Frame) (low high : Readers) (held : Held f low high) (local : LocalReaders some_tails low) where
   -- ---- behind a list in parentheses
 
@@ -162,90 +239,13 @@ module _ (f : Frame) (low high : Readers) (held : Held f low high) (local : Loca
   unfolding sees sees_behind symbol symbol_behind sees_word
   two_typeof u w ts us l m = refl
 
-  no_typeof : (u : Tok) → same (symbol_of u) s.Name ≡ true → (zs : List Tok) (l m : ℕ) → EndsType (first_symbol zs) → sees_typeof (place (u ∷ zs) l m) ≡ false
-  unfolding sees sees_behind symbol symbol_behind
-  no_typeof u e zs l m z = no_second (sees_word (codes "typeof") (place (u ∷ zs) l m)) (same (first_symbol zs) s.LeftParen) z.paren
-
-  -- ---- a name, and nothing more
-
-  module _ (a : ℕ) (fits : a ≤ peak f) (u : Tok) (e : same (symbol_of u) s.Name ≡ true) where
-    pub only_name : Opens f a anything any (λ zs. u ∷ zs) tt (read.name f.high)
-    unfolding read.name read.expect sees symbol
-    only_name =
-        opens_link f a (this_opens f {close = λ zs. u ∷ zs} (sees s.Name) (read.refuse f.high) (λ zs l m _. e) (next_opens f a fits u))
-        (λ t. value_opens f a anything any (λ p. t.bytes) tt (λ p. refl)) (λ _ _. tt)
-
-    pub only_span : (b : ℕ) (kind : tree.TypeKind) → Opens f a EndsType any (λ zs. zs) tt (read.span_from b >>= (λ i. pure (tree.the_type i kind)))
-    only_span b kind =
-        opens_link f a (value_opens f a EndsType any (λ p. record { start = b; end = p.last }) tt (λ p. refl)) (λ i. value_opens f a EndsType any (λ p. tree.the_type i kind) tt (λ p. refl)) (λ _ z. z)
-
-    no_arguments : Opens f a EndsType any (λ zs. zs) tt (code.type_arguments f.high high)
-    unfolding code.type_arguments
-    no_arguments =
-        other_opens f {close = λ zs. zs} (sees s.Less) (read.expect f.high s.Less >>= (λ _. code.maybe_results f.high high >>= (λ ts. read.expect f.high s.Greater >>= (λ _. pure ts))))
-        (λ zs l m z. sees_first s.Less zs l m ∙ z.less) (value_opens f a EndsType any (λ p. tree.no_types) tt (λ p. refl))
-
-    only_undotted : (b : ℕ) (n : List ℕ) → Opens f a EndsType any (λ zs. zs) tt (code.undotted f.high high b n)
-    unfolding code.undotted
-    only_undotted b n = opens_link f a no_arguments (λ x. only_span b (tree.Named None n x)) (λ _ z. z)
-
-    only_behind : (b : ℕ) (n : List ℕ) → Opens f a EndsType any (λ zs. zs) tt (code.named_behind f.high high b n)
-    unfolding code.named_behind
-    only_behind b n = other_opens f {close = λ zs. zs} (sees s.Dot) (code.dotted f.high high b n) (λ zs l m z. sees_first s.Dot zs l m ∙ z.dot) (only_undotted b n)
-
-    only_named : Opens f a EndsType any (λ zs. u ∷ zs) tt (code.named f.high high)
-    unfolding code.named
-    only_named =
-        opens_link f a (value_opens f a anything any start_of tt (λ p. refl)) (λ b. opens_link f a only_name (λ n. only_behind b n) (λ _ _. tt)) (λ _ _. tt)
-
-    only_name_form : Opens f a EndsType any (λ zs. u ∷ zs) tt (code.name_form f.high high)
-    unfolding code.name_form
-    only_name_form = other_opens f {close = λ zs. u ∷ zs} sees_typeof (code.typeof_form f.high high) (no_typeof u e) only_named
-
-    only_form : Opens f a EndsType any (λ zs. u ∷ zs) tt (code.form f.high high)
-    unfolding code.form symbol
-    only_form = opens_at f {close = λ zs. u ∷ zs} symbol (code.form_by f.high high) s.Name (λ zs l m _. is_name (symbol_of u) e) only_name_form
-
-    only_basic : Opens f a EndsType any (λ zs. u ∷ zs) tt (code.basic f.high high None)
-    unfolding code.basic sees symbol same
-    only_basic =
-        other_opens f {close = λ zs. u ∷ zs} (sees s.LeftParen) (code.listed f.high high >>= code.listed_type f.high high) (λ zs l m _. name_unlike (symbol_of u) s.LeftParen e refl) only_form
-
-    no_marks : (b : ℕ) (t : TypeSyntax) → Opens f a EndsType any (λ zs. zs) tt (code.marks f.high high b t)
-    unfolding code.marks code.all_marks
-    no_marks b t = restored_opens f (loop_opens f a any goes_marks (code.mark f.high high b) t (λ zs l m z. sees_first s.Question zs l m ∙ z.question))
-
-    only_option : Opens f a EndsType any (λ zs. u ∷ zs) tt (code.option f.high high None)
-    unfolding code.option
-    only_option =
-        opens_link f a (value_opens f a anything any start_of tt (λ p. refl)) (λ b. opens_link f a only_basic (λ t. no_marks b t) (λ _ z. z)) (λ _ _. tt)
-
-    only_first : (b : ℕ) (t : TypeSyntax) → Opens f a EndsType any (λ zs. zs) tt (code.joined f.high high b t)
-    unfolding code.joined
-    only_first b t =
-        other_opens f {close = λ zs. zs} (sees s.Pipe) (code.union_behind f.high high b t) (λ zs l m z. sees_first s.Pipe zs l m ∙ z.pipe)
-        (other_opens f {close = λ zs. zs} (sees s.Ampersand) (code.meet_behind f.high high b t) (λ zs l m z. sees_first s.Ampersand zs l m ∙ z.ampersand)
-        (value_opens f a EndsType any (λ p. t) tt (λ p. refl)))
-
-    no_bar : Opens f a (λ x. same x s.Name ≡ true) any (λ zs. zs) tt (code.bar f.high high None)
-    unfolding code.bar sees symbol same
-    no_bar =
-        other_opens f {close = λ zs. zs} (λ p. sees s.Pipe p || sees s.Ampersand p) (read.next f.high >>= (λ _. pure tt))
-        (λ zs l m z. either_no (same (first_symbol zs) s.Pipe) (same (first_symbol zs) s.Ampersand) (name_unlike (first_symbol zs) s.Pipe z refl) (name_unlike (first_symbol zs) s.Ampersand z refl))
-        (value_opens f a (λ x. same x s.Name ≡ true) any (λ p. tt {0}) tt (λ p. refl))
-
-    pub only_type : Opens f a EndsType any (λ zs. u ∷ zs) tt (code.type_inside f.high high None)
-    unfolding code.type_inside
-    only_type =
-        opens_link f a no_bar (λ _. opens_link f a (value_opens f a anything any start_of tt (λ p. refl)) (λ b. opens_link f a only_option (λ t. only_first b t) (λ _ z. z)) (λ _ _. tt)) (λ _ _. e)
-
   -- ---- whole types, over those of tables
 
   name_form_goes : Goes f EndsType any never (code.name_form f.low low) (code.name_form f.high high)
   unfolding code.name_form
   name_form_goes =
       by_two f TypeSyntax (Unit {0}) EndsType any sees_typeof (code.typeof_form f.low low) (code.typeof_form f.high high) (code.named f.low low) (code.named f.high high)
-      plain_typeof two_typeof typeof_beyond no_typeof (λ zs. zs) (λ _ _ b. b) tt no_typeof (only_named (roof f) (let x : roof f ≤ peak f = omega arith in x)) ((locals.named_local f.low low some_tails local).takes)
+      plain_typeof two_typeof typeof_beyond no_typeof (λ zs. zs) (λ _ _ b. b) tt no_typeof (only_named f high (roof f) (let x : roof f ≤ peak f = omega arith in x)) ((locals.named_local f.low low some_tails local).takes)
       (under f (λ _ _. tt) (typeof_reads f low high held local).goes) (named_reads f low high held local result_reads).goes
 
   literal_goes : Goes f EndsType any never (code.literal f.low low) (code.literal f.high high)
@@ -284,7 +284,7 @@ module _ (f : Frame) (low high : Readers) (held : Held f low high) (local : Loca
     unfolding code.form same symbol_of
     form_reads = record {
       goes = by_peek f symbol (code.form_by f.low low) (code.form_by f.high high) peek_symbol form_by_goes;
-      opens = only_form (roof f) (let x : roof f ≤ peak f = omega arith in x) (the_name f.at) refl;
+      opens = only_form f high (roof f) (let x : roof f ≤ peak f = omega arith in x) (the_name f.at) refl;
       late = λ zs fol b. (let x : f.at ≤ f.at = omega arith in x, b);
     }
 

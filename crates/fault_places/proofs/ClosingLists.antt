@@ -6,6 +6,8 @@ use Rattle.luau_grammar.specs.declared.symbol.Symbol.TheVariants as s
 use Rattle.luau_grammar.specs.Symbols.{same, symbol_of}
 use Rattle.luau_grammar.specs.Places.{sees}
 use Rattle.luau_grammar.specs.Phrases.{Listed, in_parens}
+use Rattle.luau_grammar.specs.Operators.{compound_of}
+use Rattle.luau_grammar.specs.Expressions as expressions
 use Rattle.luau_grammar.specs.Statements as statements
 use Rattle.luau_grammar.specs.Reading as read
 use Rattle.luau_grammar.specs.Reading.{Setting, Parser, Readers, ◌>>=◌, pure}
@@ -41,6 +43,9 @@ pub record EndsBlock (x : Symbol) : Type 0 where
   pub comma : same x s.Comma ≡ false
   pub semicolon : same x s.Semicolon ≡ false
   pub statement : statements.begins x ≡ false
+  pub closes : statements.closes x ≡ true
+  pub compound : compound_of x ≡ None
+  pub expression : expressions.begins x ≡ false
 
 module _ (f : Frame) where
   -- What the parsers of phrases read up to the cut can be closed.

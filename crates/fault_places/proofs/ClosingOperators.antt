@@ -44,6 +44,63 @@ module _ (f : Frame) where
       (both_by f (Unit {0}) B (Unit {0}) D anything G any th never (λ _ _. ⊥) never (read.next f.low >>= (λ _. read.raise f.low)) (read.next f.high >>= (λ _. read.raise f.high)) g k
       (λ _. close) (λ _. kind) (deep_goes f) (λ x y _. (h x y).goes) (λ y. (h y y).opens) (λ _ _ _. tt) (λ _ _ b. absurd b) (λ _ _ _ b. b) (λ y. (h y y).late))
 
+not_tighter : (least : ℕ) (zs : List Tok) (l m : ℕ) → EndsValue (first_symbol zs) → is_some (code.tighter least (place zs l m)) ≡ false
+unfolding code.tighter symbol
+not_tighter least zs l m z = ap (λ o. is_some (code.tighter_by least o)) z.binary
+
+module _ (f : Frame) (high : Readers) (others : LocalReaders some_tails high) where
+  -- ---- with as many turns as tokens
+
+  abbrev whole : ℕ → Parser Expr
+  whole least = λ p. code.operation f.high high (length p.ahead) least p
+
+  more : (k m at : ℕ) (p : Place) → length p.ahead ≤ m → code.operation f.high high m at p ≡ code.operation f.high high (k + m) at p
+  more zero m at p l =
+      let e : m ≡ 0 + m = omega arith in
+      ap (λ z. code.operation f.high high z at p) e
+  more (suc k) m at p l =
+      let e : suc (k + m) ≡ suc k + m = omega arith in
+      more k m at p l ∙ (one_more_turn f.high high some_tails others (k + m) at p (omega arith) ∙ ap (λ z. code.operation f.high high z at p) e)
+
+  enough : (m at : ℕ) (p : Place) → length p.ahead ≤ m → code.operation f.high high m at p ≡ whole at p
+  enough m at p l =
+      let e : (m - length p.ahead) + length p.ahead ≡ m = omega arith in
+      sym (more (m - length p.ahead) (length p.ahead) at p (omega arith) ∙ ap (λ z. code.operation f.high high z at p) e)
+
+  none_left : (at l m : ℕ) → code.operation f.high high 0 at (place [] l m) ≡ code.climb f.high high whole at (place [] l m)
+  unfolding code.operation code.climb code.operand code.assertion code.simple code.form symbol sees same
+  none_left at l m = refl
+
+  whole_at : (at : ℕ) (ts : List Tok) (l m : ℕ) → whole at (place ts l m) ≡ code.climb f.high high whole at (place ts l m)
+  unfolding code.operation
+  whole_at at [] l m = none_left at l m
+  whole_at at (t ∷ ts) l m =
+      climb_same f.high high some_tails others (code.operation f.high high (length ts)) whole (length ts) (λ least q k. enough (length ts) least q k) (operation_local f.high high some_tails others (length ts)) at
+      (place (t ∷ ts) l m) (omega arith)
+
+  whole_is : (at : ℕ) (p : Place) → whole at p ≡ code.climb f.high high whole at p
+  whole_is at p = whole_at at p.ahead p.last p.level
+
+  -- ---- a name, and nothing more
+
+  module _ (a : ℕ) (fits : a ≤ peak f) (u : Tok) (e : same (symbol_of u) s.Name ≡ true) where
+    only_operand : Opens f a EndsValue any (λ zs. u ∷ zs) tt (code.operand f.high high whole)
+    unfolding code.operand symbol
+    only_operand =
+        opens_at f {close = λ zs. u ∷ zs} (λ p. unary_of (symbol p)) (code.operand_by f.high high whole) None (λ zs l m _. ap unary_of (is_name (symbol_of u) e))
+        (only_assertion f high a fits u e)
+
+    only_operation : (least : ℕ) → Opens f a EndsValue any (λ zs. u ∷ zs) tt (whole least)
+    unfolding code.climb code.climb_from
+    only_operation least =
+        opens_from f (whole_is least)
+        (opens_link f a (value_opens f a anything any start_of tt (λ p. refl)) (λ b.
+        opens_link f a only_operand (λ x. loop_opens f a any (λ _ p. is_some (code.tighter least p)) (code.climb_step f.high high whole b) x (λ zs l m z. not_tighter least zs l m z)) (λ _ z. z)) (λ _ _. tt))
+
+    pub only_expression : Opens f a EndsValue any (λ zs. u ∷ zs) tt (code.expression_inside f.high high)
+    unfolding code.expression_inside
+    only_expression = only_operation 0
+
 module _ (f : Frame) (low high : Readers) (held : Held f low high) (local : LocalReaders some_tails low) (others : LocalReaders some_tails high) where
   abbrev naming : List Tok → List Tok
   naming = λ zs. the_name f.at ∷ zs
@@ -59,10 +116,6 @@ module _ (f : Frame) (low high : Readers) (held : Held f low high) (local : Loca
   peek_tighter : (least : ℕ) (u : Tok) (ts us : List Tok) (l m : ℕ) → is_some (code.tighter least (place (u ∷ us) l m)) ≡ is_some (code.tighter least (place (u ∷ ts) l m))
   unfolding code.tighter symbol
   peek_tighter least u ts us l m = refl
-
-  not_tighter : (least : ℕ) (zs : List Tok) (l m : ℕ) → EndsValue (first_symbol zs) → is_some (code.tighter least (place zs l m)) ≡ false
-  unfolding code.tighter symbol
-  not_tighter least zs l m z = ap (λ o. is_some (code.tighter_by least o)) z.binary
 
   -- ---- over parsers of right operands
 
@@ -115,69 +168,17 @@ module _ (f : Frame) (low high : Readers) (held : Held f low high) (local : Loca
     unfolding code.climb
     climb_reads least = link f (at_start f anything) (λ a b. rest f operand_reads (λ x y. from_reads least a b x y) (λ _ z. z)) (λ _ _. tt)
 
-  -- ---- with as many turns as tokens
-
-  abbrev whole : ℕ → Parser Expr
-  whole least = λ p. code.operation f.high high (length p.ahead) least p
-
-  more : (k m at : ℕ) (p : Place) → length p.ahead ≤ m → code.operation f.high high m at p ≡ code.operation f.high high (k + m) at p
-  more zero m at p l =
-      let e : m ≡ 0 + m = omega arith in
-      ap (λ z. code.operation f.high high z at p) e
-  more (suc k) m at p l =
-      let e : suc (k + m) ≡ suc k + m = omega arith in
-      more k m at p l ∙ (one_more_turn f.high high some_tails others (k + m) at p (omega arith) ∙ ap (λ z. code.operation f.high high z at p) e)
-
-  enough : (m at : ℕ) (p : Place) → length p.ahead ≤ m → code.operation f.high high m at p ≡ whole at p
-  enough m at p l =
-      let e : (m - length p.ahead) + length p.ahead ≡ m = omega arith in
-      sym (more (m - length p.ahead) (length p.ahead) at p (omega arith) ∙ ap (λ z. code.operation f.high high z at p) e)
-
-  none_left : (at l m : ℕ) → code.operation f.high high 0 at (place [] l m) ≡ code.climb f.high high whole at (place [] l m)
-  unfolding code.operation code.climb code.operand code.assertion code.simple code.form symbol sees same
-  none_left at l m = refl
-
-  whole_at : (at : ℕ) (ts : List Tok) (l m : ℕ) → whole at (place ts l m) ≡ code.climb f.high high whole at (place ts l m)
-  unfolding code.operation
-  whole_at at [] l m = none_left at l m
-  whole_at at (t ∷ ts) l m =
-      climb_same f.high high some_tails others (code.operation f.high high (length ts)) whole (length ts) (λ least q k. enough (length ts) least q k) (operation_local f.high high some_tails others (length ts)) at
-      (place (t ∷ ts) l m) (omega arith)
-
-  whole_is : (at : ℕ) (p : Place) → whole at p ≡ code.climb f.high high whole at p
-  whole_is at p = whole_at at p.ahead p.last p.level
-
-  -- ---- a name, and nothing more
-
-  module _ (a : ℕ) (fits : a ≤ peak f) (u : Tok) (e : same (symbol_of u) s.Name ≡ true) where
-    only_operand : Opens f a EndsValue any (λ zs. u ∷ zs) tt (code.operand f.high high whole)
-    unfolding code.operand symbol
-    only_operand =
-        opens_at f {close = λ zs. u ∷ zs} (λ p. unary_of (symbol p)) (code.operand_by f.high high whole) None (λ zs l m _. ap unary_of (is_name (symbol_of u) e))
-        (only_assertion f low high held local others a fits u e)
-
-    only_operation : (least : ℕ) → Opens f a EndsValue any (λ zs. u ∷ zs) tt (whole least)
-    unfolding code.climb code.climb_from
-    only_operation least =
-        opens_from f (whole_is least)
-        (opens_link f a (value_opens f a anything any start_of tt (λ p. refl)) (λ b.
-        opens_link f a only_operand (λ x. loop_opens f a any (λ _ p. is_some (code.tighter least p)) (code.climb_step f.high high whole b) x (λ zs l m z. not_tighter least zs l m z)) (λ _ z. z)) (λ _ _. tt))
-
-    pub only_expression : Opens f a EndsValue any (λ zs. u ∷ zs) tt (code.expression_inside f.high high)
-    unfolding code.expression_inside
-    only_expression = only_operation 0
-
   -- ---- whole expressions
 
-  operation_goes : (n at : ℕ) → Goes f EndsValue any never (code.operation f.low low n at) (whole at)
+  operation_goes : (n at : ℕ) → Goes f EndsValue any never (code.operation f.low low n at) (whole f high others at)
   unfolding code.operation same symbol_of
-  operation_goes zero at = refuses_with f EndsValue any never (whole at)
+  operation_goes zero at = refuses_with f EndsValue any never (whole f high others at)
   operation_goes (suc n) at =
-      goes_by f (λ p. refl) (whole_is at)
-      (climb_reads (code.operation f.low low n) whole
+      goes_by f (λ p. refl) (whole_is f high others at)
+      (climb_reads (code.operation f.low low n) (whole f high others)
       (λ least. record {
         goes = operation_goes n least;
-        opens = only_operation (roof f) (let x : roof f ≤ peak f = omega arith in x) (the_name f.at) refl least;
+        opens = only_operation f high others (roof f) (let x : roof f ≤ peak f = omega arith in x) (the_name f.at) refl least;
         late = λ zs fol b. (let x : f.at ≤ f.at = omega arith in x, b);
       })
       (λ from x p. (step_local f.low low some_tails local (code.operation f.low low n) (operation_local f.low low some_tails local n) from x).takes p) at).goes

@@ -37,6 +37,9 @@ block_end = record {
   comma = refl;
   semicolon = refl;
   statement = refl;
+  closes = refl;
+  compound = refl;
+  expression = refl;
 }
 
 block_until : EndsBlock s.Until
@@ -46,6 +49,9 @@ block_until = record {
   comma = refl;
   semicolon = refl;
   statement = refl;
+  closes = refl;
+  compound = refl;
+  expression = refl;
 }
 
 -- no arm of an `if` goes on with a symbol, nor the `if`
@@ -87,7 +93,7 @@ module _ (f : Frame) (low high : Readers) (held : Held f low high) (local : Loca
       link f block (λ b c.
       rest f the_end (λ _ _. given f anything b c) (λ _ z. z)) (λ _ _. block_end)) (λ _ _. tt)
 
-  while_reads : (a b : ℕ) → Reads f anything any (λ zs. the_word f.at (codes "while") ∷ the_name f.at ∷ the_word f.at (codes "do") ∷ the_word f.at (codes "end") ∷ zs) tt never (code.while_statement f.low low a) (code.while_statement f.high high b)
+  pub while_reads : (a b : ℕ) → Reads f anything any (λ zs. the_word f.at (codes "while") ∷ the_name f.at ∷ the_word f.at (codes "do") ∷ the_word f.at (codes "end") ∷ zs) tt never (code.while_statement f.low low a) (code.while_statement f.high high b)
   unfolding code.while_statement same symbol_of
   while_reads a b =
       link f (symbol_of_it f s.While (the_word f.at (codes "while")) refl refl) (λ _ _.
@@ -96,7 +102,7 @@ module _ (f : Frame) (low high : Readers) (held : Held f low high) (local : Loca
       idle f (spanned f anything a b) (λ i j. given f anything (tree.the_stat i (tree.While x v)) (tree.the_stat j (tree.While y w))) (λ _ z. z)) (λ _ z. z))
       (λ _ _. value_do)) (λ _ _. tt)
 
-  repeat_reads : (a b : ℕ) → Reads f EndsValue any (λ zs. the_word f.at (codes "repeat") ∷ the_word f.at (codes "until") ∷ the_name f.at ∷ zs) tt never (code.repeat_statement f.low low a) (code.repeat_statement f.high high b)
+  pub repeat_reads : (a b : ℕ) → Reads f EndsValue any (λ zs. the_word f.at (codes "repeat") ∷ the_word f.at (codes "until") ∷ the_name f.at ∷ zs) tt never (code.repeat_statement f.low low a) (code.repeat_statement f.high high b)
   unfolding code.repeat_statement same symbol_of
   repeat_reads a b =
       link f (symbol_of_it f s.Repeat (the_word f.at (codes "repeat")) refl refl) (λ _ _.
@@ -138,7 +144,7 @@ module _ (f : Frame) (low high : Readers) (held : Held f low high) (local : Loca
       idle f block (λ v w. given f EndsArm (tree.a_block v) (tree.a_block w)) (λ _ z. z.block)) (λ _ _. tt))
       (given f EndsArm tree.no_block tree.no_block)
 
-  if_reads : (a b : ℕ) → Reads f anything any (λ zs. the_word f.at (codes "if") ∷ the_name f.at ∷ the_word f.at (codes "then") ∷ the_word f.at (codes "end") ∷ zs) tt never (code.if_statement f.low low a) (code.if_statement f.high high b)
+  pub if_reads : (a b : ℕ) → Reads f anything any (λ zs. the_word f.at (codes "if") ∷ the_name f.at ∷ the_word f.at (codes "then") ∷ the_word f.at (codes "end") ∷ zs) tt never (code.if_statement f.low low a) (code.if_statement f.high high b)
   unfolding code.if_statement symbol_of
   if_reads a b =
       link f all_arms_reads (λ x y.
@@ -188,7 +194,7 @@ module _ (f : Frame) (low high : Readers) (held : Held f low high) (local : Loca
       idle f (spanned f anything a b) (λ i j. given f anything (tree.the_stat i (tree.GenFor (binds n) (exprs r) v)) (tree.the_stat j (tree.GenFor (binds o) (exprs t) w))) (λ _ z. z)) (λ _ z. z))
       (λ _ _. values_do)) (λ _ _. tt)) (λ _ _. types_in)
 
-  for_reads : (a b : ℕ) → Reads f anything any
+  pub for_reads : (a b : ℕ) → Reads f anything any
       (λ zs. the_word f.at (codes "for") ∷ the_name f.at ∷ the_word f.at (codes "in") ∷ the_name f.at ∷ the_word f.at (codes "do") ∷ the_word f.at (codes "end") ∷ zs) tt never
       (code.for_statement f.low low a) (code.for_statement f.high high b)
   unfolding code.for_statement sees symbol same symbol_of
@@ -219,7 +225,7 @@ module _ (f : Frame) (low high : Readers) (held : Held f low high) (local : Loca
 
   module _ (body : (m n : Option Span) → Reads f anything any (λ zs. the_sign f.at (codes "(") ∷ the_sign f.at (codes ")") ∷ the_word f.at (codes "end") ∷ zs) tt never (values.body f.low low m) (values.body f.high high n))
       (generics : Reads f (Unlike s.Less) any (λ zs. zs) tt (λ z. z ≡ tt) (types.generics f.low low true) (types.generics f.high high true)) where
-    local_function_reads : (a b : ℕ) → Reads f anything any
+    pub local_function_reads : (a b : ℕ) → Reads f anything any
         (λ zs. the_word f.at (codes "function") ∷ the_name f.at ∷ the_sign f.at (codes "(") ∷ the_sign f.at (codes ")") ∷ the_word f.at (codes "end") ∷ zs) tt never
         (code.local_function f.low low a) (code.local_function f.high high b)
     unfolding code.local_function same symbol_of
@@ -233,14 +239,14 @@ module _ (f : Frame) (low high : Readers) (held : Held f low high) (local : Loca
         given f anything (tree.the_stat k (tree.LocalFunction (tree.the_bind n i tree.no_type) v)) (tree.the_stat l (tree.LocalFunction (tree.the_bind o j tree.no_type) w))) (λ _ z. z)) (λ _ z. z))
         (λ _ _. tt)) (λ _ _. tt)) (λ _ _. tt)) (λ _ _. tt)
 
-    local_reads : (a b : ℕ) → Reads f (EndsList EndsValue) any (λ zs. the_word f.at (codes "local") ∷ the_name f.at ∷ zs) tt never (code.local_statement f.low low a) (code.local_statement f.high high b)
+    pub local_reads : (a b : ℕ) → Reads f (EndsList EndsValue) any (λ zs. the_word f.at (codes "local") ∷ the_name f.at ∷ zs) tt never (code.local_statement f.low low a) (code.local_statement f.high high b)
     unfolding code.local_statement sees symbol same symbol_of
     local_reads a b =
         link f (symbol_of_it f s.Local (the_word f.at (codes "local")) refl refl) (λ _ _.
         either f {close = λ zs. the_name f.at ∷ zs} (sees s.Function) (peek_sees s.Function) (λ zs l m _. refl)
         (fitted f (λ _ _. tt) (local_function_reads a b)) (local_names_reads a b)) (λ _ _. tt)
 
-    alias_reads : (a b : ℕ) (x : Bool) → Reads f EndsType any (λ zs. the_name f.at ∷ the_sign f.at (codes "=") ∷ the_name f.at ∷ zs) tt never (code.alias f.low low a x) (code.alias f.high high b x)
+    pub alias_reads : (a b : ℕ) (x : Bool) → Reads f EndsType any (λ zs. the_name f.at ∷ the_sign f.at (codes "=") ∷ the_name f.at ∷ zs) tt never (code.alias f.low low a x) (code.alias f.high high b x)
     unfolding code.alias same symbol_of
     alias_reads a b x =
         link f (a_name f) (λ n o.
@@ -250,7 +256,7 @@ module _ (f : Frame) (low high : Readers) (held : Held f low high) (local : Loca
         idle f (spanned f EndsType a b) (λ i j. given f EndsType (tree.the_stat i (tree.TypeAlias x n g t)) (tree.the_stat j (tree.TypeAlias x o h u))) (λ _ z. z)) (λ _ z. z))
         (λ _ _. tt)) (λ _ _. refl)) (λ _ _. tt)
 
-    type_function_reads : (a b : ℕ) (x : Bool) → Reads f anything any
+    pub type_function_reads : (a b : ℕ) (x : Bool) → Reads f anything any
         (λ zs. the_word f.at (codes "function") ∷ the_name f.at ∷ the_sign f.at (codes "(") ∷ the_sign f.at (codes ")") ∷ the_word f.at (codes "end") ∷ zs) tt never
         (code.type_function f.low low a x) (code.type_function f.high high b x)
     unfolding code.type_function same symbol_of
@@ -261,7 +267,7 @@ module _ (f : Frame) (low high : Readers) (held : Held f low high) (local : Loca
         idle f (spanned f anything a b) (λ i j. given f anything (tree.the_stat i (tree.TypeFunction x n v)) (tree.the_stat j (tree.TypeFunction x o w))) (λ _ z. z)) (λ _ z. z))
         (λ _ _. tt)) (λ _ _. tt)
 
-    type_statement_reads : (a b : ℕ) (x : Bool) → Reads f EndsType any (λ zs. the_name f.at ∷ the_name f.at ∷ the_sign f.at (codes "=") ∷ the_name f.at ∷ zs) tt never
+    pub type_statement_reads : (a b : ℕ) (x : Bool) → Reads f EndsType any (λ zs. the_name f.at ∷ the_name f.at ∷ the_sign f.at (codes "=") ∷ the_name f.at ∷ zs) tt never
         (code.type_statement f.low low a x) (code.type_statement f.high high b x)
     unfolding code.type_statement sees symbol same symbol_of
     type_statement_reads a b x =
@@ -269,12 +275,12 @@ module _ (f : Frame) (low high : Readers) (held : Held f low high) (local : Loca
         either f {close = λ zs. the_name f.at ∷ the_sign f.at (codes "=") ∷ the_name f.at ∷ zs} (sees s.Function) (peek_sees s.Function) (λ zs l m _. refl)
         (fitted f (λ _ _. tt) (type_function_reads a b x)) (alias_reads a b x)) (λ _ _. tt)
 
-  word_statement_reads : (a b : ℕ) (kind : StatKind) → Reads f anything any (λ zs. the_name f.at ∷ zs) tt never (code.word_statement f.low low a kind) (code.word_statement f.high high b kind)
+  pub word_statement_reads : (a b : ℕ) (kind : StatKind) → Reads f anything any (λ zs. the_name f.at ∷ zs) tt never (code.word_statement f.low low a kind) (code.word_statement f.high high b kind)
   unfolding code.word_statement
   word_statement_reads a b kind =
       rest f (token f (the_name f.at) refl) (λ _ _. idle f (spanned f anything a b) (λ i j. given f anything (tree.the_stat i kind) (tree.the_stat j kind)) (λ _ z. z)) (λ _ z. z)
 
-  do_reads : (a b : ℕ) → Reads f anything any (λ zs. the_word f.at (codes "do") ∷ the_word f.at (codes "end") ∷ zs) tt never (code.do_statement f.low low a) (code.do_statement f.high high b)
+  pub do_reads : (a b : ℕ) → Reads f anything any (λ zs. the_word f.at (codes "do") ∷ the_word f.at (codes "end") ∷ zs) tt never (code.do_statement f.low low a) (code.do_statement f.high high b)
   unfolding code.do_statement
   do_reads a b =
       rest f do_block_reads (λ v w. idle f (spanned f anything a b) (λ i j. given f anything (tree.the_stat i (tree.Do v)) (tree.the_stat j (tree.Do w))) (λ _ z. z)) (λ _ z. z)

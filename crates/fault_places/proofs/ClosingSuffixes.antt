@@ -45,6 +45,24 @@ no_suffix zs l m z =
     (either_no (same x s.Dot) (same x s.LeftBracket || same x s.Colon) z.dot (either_no (same x s.LeftBracket) (same x s.Colon) z.bracket z.colon))
     (either_no (same x s.LeftParen) (same x s.LeftBrace || same x s.Text) z.paren (either_no (same x s.LeftBrace) (same x s.Text) z.brace z.text))
 
+-- ---- a name, and nothing more
+
+module _ (f : Frame) (high : Readers) (a : ℕ) (fits : a ≤ peak f) (u : Tok) (e : same (symbol_of u) s.Name ≡ true) where
+  only_primary : Opens f a anything any (λ zs. u ∷ zs) tt (code.primary f.high high)
+  unfolding code.primary code.name_expression sees symbol same
+  only_primary =
+      other_opens f {close = λ zs. u ∷ zs} (sees s.LeftParen) (code.paren f.high high) (λ zs l m _. name_unlike (symbol_of u) s.LeftParen e refl)
+      (opens_link f a (value_opens f a anything any start_of tt (λ p. refl)) (λ b.
+      opens_link f a (only_name f high a fits u e) (λ n.
+      opens_link f a (value_opens f a anything any (λ p. record { start = b; end = p.last }) tt (λ p. refl)) (λ i.
+      value_opens f a anything any (λ p. tree.the_expr 0 i (tree.NameExpr n)) tt (λ p. refl)) (λ _ _. tt)) (λ _ _. tt)) (λ _ _. tt))
+
+  pub only_prefix : Opens f a NoSuffix any (λ zs. u ∷ zs) tt (code.prefix f.high high)
+  unfolding code.prefix
+  only_prefix =
+      opens_link f a (value_opens f a anything any start_of tt (λ p. refl)) (λ b.
+      opens_link f a only_primary (λ x. loop_opens f a any (λ _ p. begins_suffix p) (code.suffix f.high high b) x (λ zs l m z. no_suffix zs l m z)) (λ _ _. tt)) (λ _ _. tt)
+
 module _ (f : Frame) (low high : Readers) (held : Held f low high) (local : LocalReaders some_tails low) where
   pub suffix_goes : (a b : ℕ) (x y : Expr) → Goes f anything sort never (code.suffix f.low low a x) (code.suffix f.high high b y)
   unfolding code.suffix
@@ -85,21 +103,3 @@ module _ (f : Frame) (low high : Readers) (held : Held f low high) (local : Loca
   pub prefix_reads : Reads f NoSuffix sort (λ zs. the_name f.at ∷ zs) (true, false) never (code.prefix f.low low) (code.prefix f.high high)
   unfolding code.prefix
   prefix_reads = link f (at_start f anything) (λ a b. follow_by f {sh = sort} {th = sort} (λ k. k) primary_sort (λ x y e. suffixes_reads a b x y e) (λ _ _. tt)) (λ _ _. tt)
-
-  -- ---- a name, and nothing more
-
-  module _ (a : ℕ) (fits : a ≤ peak f) (u : Tok) (e : same (symbol_of u) s.Name ≡ true) where
-    only_primary : Opens f a anything any (λ zs. u ∷ zs) tt (code.primary f.high high)
-    unfolding code.primary code.name_expression sees symbol same
-    only_primary =
-        other_opens f {close = λ zs. u ∷ zs} (sees s.LeftParen) (code.paren f.high high) (λ zs l m _. name_unlike (symbol_of u) s.LeftParen e refl)
-        (opens_link f a (value_opens f a anything any start_of tt (λ p. refl)) (λ b.
-        opens_link f a (only_name f low high held local a fits u e) (λ n.
-        opens_link f a (value_opens f a anything any (λ p. record { start = b; end = p.last }) tt (λ p. refl)) (λ i.
-        value_opens f a anything any (λ p. tree.the_expr 0 i (tree.NameExpr n)) tt (λ p. refl)) (λ _ _. tt)) (λ _ _. tt)) (λ _ _. tt))
-
-    pub only_prefix : Opens f a NoSuffix any (λ zs. u ∷ zs) tt (code.prefix f.high high)
-    unfolding code.prefix
-    only_prefix =
-        opens_link f a (value_opens f a anything any start_of tt (λ p. refl)) (λ b.
-        opens_link f a only_primary (λ x. loop_opens f a any (λ _ p. begins_suffix p) (code.suffix f.high high b) x (λ zs l m z. no_suffix zs l m z)) (λ _ _. tt)) (λ _ _. tt)

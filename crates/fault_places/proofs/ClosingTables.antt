@@ -177,7 +177,7 @@ module _ (f : Frame) (low high : Readers) (held : Held f low high) (local : Loca
     unfolding code.key code.property_name sees symbol same symbol_of
     only_key =
         other_opens f {close = λ zs. u ∷ the_sign f.at (codes ":") ∷ zs} (sees s.LeftBracket) (code.indexer f.high high) (λ zs l m _. name_unlike (symbol_of u) s.LeftBracket e refl)
-        (opens_link f (roof f) (only_name f low high held local (roof f) (let x : roof f ≤ peak f = omega arith in x) u e)
+        (opens_link f (roof f) (only_name f high (roof f) (let x : roof f ≤ peak f = omega arith in x) u e)
         (λ n. opens_link f (roof f) (symbol_of_it f s.Colon (the_sign f.at (codes ":")) refl refl).opens (λ _. value_opens f (roof f) anything any (λ p. tree.NameKey n) tt (λ p. refl)) (λ _ _. tt)) (λ _ _. tt))
 
     only_behind : Opens f (roof f) EndsType any (λ zs. u ∷ the_sign f.at (codes ":") ∷ the_name f.at ∷ zs) tt (behind_high Both)
@@ -333,7 +333,7 @@ module _ (f : Frame) (low high : Readers) (held : Held f low high) (local : Loca
   array_named b u e =
       opens_link f (roof f) (typ_named f low high held local u e)
       (λ t. opens_link f (roof f) (symbol_of_it f s.RightBrace (the_sign f.at (codes "}")) refl refl).opens
-      (λ _. only_span f low high held local (roof f) (let x : roof f ≤ peak f = omega arith in x) u e b (tree.Array t)) (λ _ _. tt)) (λ _ _. right_brace.one)
+      (λ _. only_span f high (roof f) (let x : roof f ≤ peak f = omega arith in x) u e b (tree.Array t)) (λ _ _. tt)) (λ _ _. right_brace.one)
 
   either_table : (a b : ℕ) → Reads f EndsType any brace_behind tt never (λ p. if is_table p then code.table f.low low a p else code.array f.low low a p) (λ p. if is_table p then code.table f.high high b p else code.array f.high high b p)
   unfolding sees symbol same symbol_of

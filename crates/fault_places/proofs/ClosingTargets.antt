@@ -32,7 +32,7 @@ module _ (f : Frame) (low high : Readers) (held : Held f low high) (local : Loca
   abbrev turned : ℕ → ℕ → Expr → Parser Expr
   turned a n x = read.repeats f.low going (code.suffix f.low low a) n x
 
-  abbrev turn : ℕ → ℕ → Expr → Parser Expr
+  abbrev pub turn : ℕ → ℕ → Expr → Parser Expr
   turn b n y = read.repeats f.high going (code.suffix f.high high b) n y
 
   pub stopped : (b n : ℕ) (y : Expr) (p : Place) → begins_suffix p ≡ false → turn b n y p ≡ Ok (y, p)

@@ -22,3 +22,4 @@ pub mod ClosingParts
 pub mod ClosingExpressions
 pub mod ClosingOperators
 pub mod ClosingTargets
+pub mod ClosingAssignments
