@@ -5,3 +5,4 @@ pub mod UnionFacts
 pub mod FieldFacts
 pub mod RowFacts
 pub mod SettingFacts
+pub mod NormalFacts
