@@ -1,2 +1,7 @@
 pub mod OwnFacts
 pub mod SideFacts
+pub mod PlainFacts
+pub mod MadeFacts
+pub mod FirmFacts
+pub mod TreeFacts
+pub mod GuardFacts

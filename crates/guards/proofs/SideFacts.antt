@@ -17,6 +17,7 @@ use Rattle.type_normal.specs.Members.{by_order}
 use Rattle.type_ops.specs.Growing.{given_refs}
 use Rattle.guards.specs.Lists.{entry_meant, meant, alone, together, beside, joined, named_meant, refs_named, refs_listed, beside_entry, side_by_side}
 use Rattle.guards.specs.Own.{IsOwn}
+use Rattle.guards.proofs.OwnFacts.{all_own_later}
 use Rattle.guards.specs.declared.joining.Join.{Join}
 use Rattle.guards.specs.declared.listing.Named.{Named}
 use Rattle.guards.specs.declared.listing.Named.TheVariants.{Once, Twice}
@@ -133,3 +134,13 @@ pub entries_mean : (a b : Arena) (entries : List Pair) → All (IsOwn a) (refs_l
 entries_mean a b entries own adds =
     meant_same (term_of (store_of b)) (term_of (store_of a)) entries
     (All-weaker (IsOwn a) (λ at. term_of (store_of b) at ≡ term_of (store_of a) at) (λ at o. adds.kept at o.there) (refs_listed entries) own)
+
+pub one_own : (a : Arena) (entries : List Pair) (local : LocalId) (at : TypeRef) → entries ≡ (local, at) ∷ [] → IsOwn a at → All (IsOwn a) (refs_listed entries)
+one_own a entries local at e own = subst (λ (es : List Pair). All (IsOwn a) (refs_listed es)) (sym e) (All-cons (IsOwn a) at [] own (All-nil (IsOwn a)))
+
+-- lent entries, while the arena gets nodes
+pub later_own : (a b : Arena) (lent entries : List Pair) → lent ≡ entries → Adds a b (given_refs []) [] → All (IsOwn a) (refs_listed entries) → All (IsOwn b) (refs_listed lent)
+later_own a b lent entries e adds own = subst (λ (es : List Pair). All (IsOwn b) (refs_listed es)) (sym e) (all_own_later a b (given_refs []) [] adds (refs_listed entries) own)
+
+pub later_meant : (a b : Arena) (lent entries : List Pair) → lent ≡ entries → Adds a b (given_refs []) [] → All (IsOwn a) (refs_listed entries) → meant (term_of (store_of b)) lent ≡ meant (term_of (store_of a)) entries
+later_meant a b lent entries e adds own = ap (meant (term_of (store_of b))) e ∙ entries_mean a b entries own adds

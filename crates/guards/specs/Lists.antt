@@ -1,5 +1,6 @@
 -- Locals with types, in the order of the locals, each once; and what two such lists say together.
-use Rattle.std.specs.Prelude.{ℕ, List, [], ◌∷◌, map}
+use Rattle.std.specs.Prelude.{ℕ, ◌==◌, Bool, List, [], ◌∷◌, map, if◌then◌else◌}
+use Rattle.std.specs.List.{list_any}
 use Rattle.std.specs.Ordering.{nat_cmp}
 use Rattle.luau_tree.specs.declared.names.LocalId.{LocalId}
 use Rattle.type_arena.specs.Term.{Term}
@@ -18,6 +19,18 @@ entry_meant means entry = (entry.0.0, means entry.1)
 
 abbrev pub meant : (TypeRef → Term) → List (LocalId × TypeRef) → List (ℕ × Term)
 meant means entries = map (entry_meant means) entries
+
+-- the type that a list gives a local: unknown where it is not listed
+abbrev pub type_in : List (ℕ × Term) → ℕ → Term
+type_in [] local = unknown
+type_in (entry ∷ entries) local = if entry.0 == local then entry.1 else type_in entries local
+
+-- whether a list has a local
+abbrev pub is_listed : List (ℕ × Term) → ℕ → Bool
+is_listed entries local = list_any (λ entry. entry.0 == local) entries
+
+abbrev pub has_local : List (LocalId × TypeRef) → ℕ → Bool
+has_local entries local = list_any (λ entry. entry.0.0 == local) entries
 
 -- the type of a local that one list has alone, and of one that both have
 abbrev pub alone_type : Join → Term → Term
