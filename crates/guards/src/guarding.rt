@@ -5,7 +5,7 @@ ghost use Rattle.luau_scope.specs.Locals.{is_among};
 ghost use Rattle.luau_tree.specs.View.{view_expr};
 ghost use Rattle.module_reading.specs.Names.{Reads};
 ghost use Rattle.report_rules.specs.Rules.{Rules, loose};
-ghost use Rattle.report_rules.specs.Guard.{guard, guarded};
+ghost use Rattle.report_rules.specs.Guard.{guard, guarded, equality as equality_of};
 ghost use Rattle.type_arena.specs.Arena.{store_of};
 ghost use Rattle.type_arena.specs.Meaning.{term_of};
 ghost use Rattle.type_arena.specs.Store.{has as has_node};
@@ -93,11 +93,20 @@ fn sides_of(
     ensures adds { Adds arena.old arena.new (given_refs []) [] }
 {
     match &cond.kind {
-        ExprKind::Name(_) => by_name(alloc, arena, firm_named(scoped, cond.id)),
-        ExprKind::Paren(e) => sides_of(alloc, arena, scoped, e.get()),
+        ExprKind::Name(_) => {
+            let named = firm_named(scoped, cond.id);
+            let sides = by_name(alloc, arena, named)?;
+            Ok(sides)
+        }
+        ExprKind::Paren(e) => {
+            let inner = e.get();
+            let sides = sides_of(alloc, arena, scoped, inner)?;
+            Ok(sides)
+        }
         ExprKind::Unary { op, e } => match op {
             UnOp::Not => {
-                let sides = sides_of(alloc, arena, scoped, e.get())?;
+                let inner = e.get();
+                let sides = sides_of(alloc, arena, scoped, inner)?;
                 Ok(turned(sides))
             }
             _ => Ok(nothing(alloc)),
@@ -106,16 +115,21 @@ fn sides_of(
             BinOp::And => {
                 let first = sides_of(alloc, arena, scoped, left.get())?;
                 let second = sides_of(alloc, arena, scoped, right.get())?;
-                together(alloc, arena, Join::Both, Join::Either, first, second)
+                let sides = together(alloc, arena, Join::Both, Join::Either, first, second)?;
+                Ok(sides)
             }
             BinOp::Or => {
                 let first = sides_of(alloc, arena, scoped, left.get())?;
                 let second = sides_of(alloc, arena, scoped, right.get())?;
-                together(alloc, arena, Join::Either, Join::Both, first, second)
+                let sides = together(alloc, arena, Join::Either, Join::Both, first, second)?;
+                Ok(sides)
             }
-            BinOp::Equal => by_test(alloc, arena, equality(scoped, left.get(), right.get())),
+            BinOp::Equal => {
+                let sides = by_equality(alloc, arena, scoped, left.get(), right.get())?;
+                Ok(sides)
+            }
             BinOp::NotEqual => {
-                let sides = by_test(alloc, arena, equality(scoped, left.get(), right.get()))?;
+                let sides = by_equality(alloc, arena, scoped, left.get(), right.get())?;
                 Ok(turned(sides))
             }
             _ => Ok(nothing(alloc)),
@@ -209,6 +223,26 @@ fn by_name(
             of_one(alloc, arena, local, &truthy, &falsy)
         }
     }
+}
+
+// What `left == right` says.
+fn by_equality(
+    alloc: Global,
+    arena: &mut Arena<'_>,
+    scoped: &Scoped,
+    left: &Expr,
+    right: &Expr,
+) -> Result<Sides, AllocError>
+    requires { AscendFrom 0 (map (λ u. u.0.0) scoped.now.uses) }
+    ensures when_true { IfOk result (λ sides. (rules : Rules) → Reads scoped.now.uses scoped.now.locals rules → meant (term_of (store_of arena.new)) sides.when_true.items ≡ test_list true (equality_of rules (view_expr left.now) (view_expr right.now))) }
+    ensures when_false { IfOk result (λ sides. (rules : Rules) → Reads scoped.now.uses scoped.now.locals rules → meant (term_of (store_of arena.new)) sides.when_false.items ≡ test_list false (equality_of rules (view_expr left.now) (view_expr right.now))) }
+    ensures own_true { IfOk result (λ sides. All (IsOwn arena.new) (refs_listed sides.when_true.items)) }
+    ensures own_false { IfOk result (λ sides. All (IsOwn arena.new) (refs_listed sides.when_false.items)) }
+    ensures adds { Adds arena.old arena.new (given_refs []) [] }
+{
+    let test = equality(scoped, left, right);
+    let sides = by_test(alloc, arena, test)?;
+    Ok(sides)
 }
 
 // What a test says.

@@ -11,3 +11,6 @@ mod naming;
 mod tests_of_locals;
 
 pub use guarding::{Guard, guard_of};
+
+#[cfg(test)]
+mod tests;
