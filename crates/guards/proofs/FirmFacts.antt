@@ -2,7 +2,6 @@
 use Rattle.std.proofs.Common.{◌≡◌, ℕ, ◌==◌, Bool, true, false, List, [], ◌∷◌, ◌++◌, refl, sym, ap, ◌∙◌, subst, arith}
 use Rattle.std.specs.Prelude.{◌||◌, Option, Some, None, if◌then◌else◌, codes}
 use Rattle.std.specs.Str.{bytes_eq}
-use Rattle.std.proofs.lemmas.Bool.Decides.{nat_tests}
 use Rattle.std.proofs.lemmas.List.Folds.{list_any-append}
 use Rattle.luau_scope.specs.Locals.{is_among}
 use Rattle.luau_tree.specs.declared.names.BinOp.{BinOp}
@@ -11,6 +10,7 @@ use Rattle.luau_tree.specs.declared.names.UnOp.TheVariants.{Minus, Not, Length}
 use Rattle.luau_tree.specs.Tree.{Expr, the_expr, Exprs, no_exprs, more_exprs, ExprKind, NilExpr, TrueExpr, FalseExpr, NumberExpr, StrExpr, Vararg, FunctionExpr, NameExpr, Index, At, Call, Method, Paren, Unary, Binary, IfElse, TableExpr, Interp, Assert}
 use Rattle.luau_run.specs.ReadFolder.{local_of}
 use Rattle.report_rules.specs.Rules.{Rules, loose, local_named}
+use Rattle.guards.proofs.PlainFacts.{same}
 use Rattle.report_rules.specs.Guard.{Says, equals, kind_equals, firm_only, firm_local, is_type, kind_subject, kind_says, local_says, or_else, side_says, equality, said_of, named_local, joined_locals, guarded, guarded_in}
 
 -- a local that there may be isn't loose
@@ -133,15 +133,12 @@ equality_firm rules l r = or_firm rules (side_says rules l r) (side_says rules r
 abbrev AllFirm : Rules → List ℕ → Type 0
 AllFirm rules locals = (local : ℕ) → is_among local locals ≡ true → loose rules local ≡ false
 
-none_firm : (rules : Rules) → AllFirm rules []
-none_firm rules local e = cc
+nfirst_true : (b : Bool) → b || false ≡ true → b ≡ true
+first_true true e = refl
+first_true false e = e
 
 one_firm : (rules : Rules) (other : ℕ) → loose rules other ≡ false → AllFirm rules (other ∷ [])
-one_firm rules other f local e = ap (loose rules) (sym (same_local (other == local) refl e)) ∙ f
-  where
-    same_local : (b : Bool) → (other == local) ≡ b → b || false ≡ true → other ≡ local
-    same_local true e t = grind (arith, nat_tests)
-    same_local false e t = cc
+one_firm rules other f local e = ap (loose rules) (sym (same other local (first_true (other == local) e))) ∙ f
 
 named_firm : (rules : Rules) (named : Option ℕ) → FirmOne rules named → AllFirm rules (named_local named)
 named_firm rules None f local e = cc

@@ -5,3 +5,4 @@ pub mod MadeFacts
 pub mod FirmFacts
 pub mod TreeFacts
 pub mod GuardFacts
+pub mod SidesFacts

@@ -17,7 +17,7 @@ use Rattle.report_rules.specs.Guard.{Says, exactly, equals, kind_equals, firm_on
 use Rattle.guards.specs.Lists.{together, joined, type_in, is_listed}
 use Rattle.guards.specs.Made.{name_list, test_list, joined_lists, made, made_in}
 use Rattle.guards.specs.declared.joining.Join.TheVariants.{Both, Either}
-use Rattle.guards.proofs.PlainFacts.{IsPlain, Orderly, unknown_plain, joined_says, joined_has, joined_orderly}
+use Rattle.guards.proofs.PlainFacts.{IsPlain, Orderly, joined_says, joined_has, joined_orderly}
 
 abbrev Entries : Type 0
 Entries = List (ℕ × Term)
@@ -32,12 +32,6 @@ pub record SaysPlain (says : Says) : Type 0 where
 abbrev MaybePlain : Option Says → Type 0
 MaybePlain None = Unit {0}
 MaybePlain (Some says) = SaysPlain says
-
-easy : (says : Says) → IsPlain says.when_true → IsPlain says.when_false → SaysPlain says
-easy says p q = record { when_true = p; when_false = q }
-
-plain : SaysPlain (record { local = 0; when_true = unknown; when_false = unknown })
-plain = record { when_true = record { flat = refl; normal = refl }; when_false = record { flat = refl; normal = refl } }
 
 equals_plain : (local : ℕ) (kind : ExprKind) → MaybePlain (equals local kind)
 equals_plain local NilExpr = record { when_true = record { flat = refl; normal = refl }; when_false = record { flat = refl; normal = refl } }

@@ -126,7 +126,7 @@ cmp_equal a b e = grind (arith, nat_tests)
 cmp_greater : (a b : ℕ) → nat_cmp a b ≡ Greater → b < a
 cmp_greater a b e = grind (arith, nat_tests)
 
-same : (a b : ℕ) → (a == b) ≡ true → a ≡ b
+pub same : (a b : ℕ) → (a == b) ≡ true → a ≡ b
 same a b e = grind (arith, nat_tests)
 
 -- ## Two lists together
