@@ -160,10 +160,10 @@ flat_any f g (more_rows false no_fields (more_rows b fs r)) e = cc
 flat_any f g (more_rows false (more_fields p t fs) r) e = cc
 flat_any f g (more_rows true fs r) e = cc
 
-flat_union : (t u : Term) → is_flat t ≡ true → is_flat u ≡ true → is_flat (union t u) ≡ true
+pub flat_union : (t u : Term) → is_flat t ≡ true → is_flat u ≡ true → is_flat (union t u) ≡ true
 flat_union (term f r) (term g s) e k = flat_put r s (either_free f g) (flat_any f (either_free f g) r e) (flat_any g (either_free f g) s k)
 
-flat_meet : (t u : Term) → is_flat t ≡ true → is_flat u ≡ true → is_flat (meet t u) ≡ true
+pub flat_meet : (t u : Term) → is_flat t ≡ true → is_flat u ≡ true → is_flat (meet t u) ≡ true
 flat_meet (term f no_rows) (term g s) e k = refl
 flat_meet (term f (more_rows false no_fields no_rows)) (term g no_rows) e k = refl
 flat_meet (term f (more_rows false no_fields no_rows)) (term g (more_rows false no_fields no_rows)) e k = refl
