@@ -13,10 +13,10 @@ use Rattle.type_normal.specs.Free.{no_values, all_values, name_cmp, function_cmp
 use Rattle.type_normal.specs.Rows.{any_table}
 use Rattle.type_normal.specs.Holds.{holds}
 use Rattle.type_normal.specs.Operations.{union, meet, is_flat}
-use Rattle.type_normal.specs.Kinds.{unknown, text_type, falsy, truthy, has_nil, has_functions_alone, only_function, exactly_one_function, is_falsy, IsFunction, Kinds, has_kind, all_or_none, all_tables_or_none, kinds_type, frozen_type}
+use Rattle.type_normal.specs.Kinds.{unknown, text_type, named_type, falsy, truthy, has_nil, has_functions_alone, only_function, exactly_one_function, is_falsy, IsFunction, Kinds, has_kind, all_or_none, all_tables_or_none, kinds_type, frozen_type}
 use Rattle.type_normal.specs.Failing.{write_fail, unwritable, is_frozen_table}
 use Rattle.type_normal.proofs.MembersFacts.{or_false, and_true}
-use Rattle.type_normal.proofs.OrderFacts.{name_ties, function_ties, names_total, Separates}
+use Rattle.type_normal.proofs.OrderFacts.{name_ties, function_ties, names_total, functions_total, Separates}
 use Rattle.type_normal.proofs.HoldsFacts.{left, right, belongs-none, union_holds}
 
 in_all : {X : Type 0} (cmp : X → X → Ordering) (x : X) (b : Bool) → is_member cmp x (all_or_none b) ≡ b
@@ -96,6 +96,12 @@ text_holds h (Other n) s e = cc
 
 pub text_is_in : (h : Heap) (s : List ℕ) → holds h (Str s) (text_type s) ≡ true
 text_is_in h s = rw (tied_itself names_total s) refl
+
+pub builtin_is_in : (h : Heap) (path : List ℕ) → holds h (Builtin path) (named_type (builtin path)) ≡ true
+builtin_is_in h path = rw (tied_itself functions_total (builtin path)) refl
+
+pub literal_is_in : (h : Heap) (home number : ℕ) (cells : List (ℕ × ℕ)) → holds h (Lit home number cells) (named_type (literal home number)) ≡ true
+literal_is_in h home number cells = rw (tied_itself functions_total (literal home number)) refl
 
 function_is : (f g : Function) (v : Value) → f ≡ g → IsFunction f v → IsFunction g v
 function_is f g v e i = subst (λ (x : Function). IsFunction x v) e i

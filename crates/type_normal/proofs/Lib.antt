@@ -8,6 +8,7 @@ pub mod KindFacts
 pub mod Public
 pub mod NodeFacts
 pub mod AddsFacts
+pub mod CleanFacts
 pub mod ComplementFacts
 pub mod ShapeFacts
 pub mod RowsFacts

@@ -1,8 +1,8 @@
 -- Which types list a name, over arenas.
-use Rattle.std.proofs.Common.{◌≡◌, ℕ, Bool, true, false, not, List, [], ◌∷◌, ◌++◌, refl, sym, ap, ◌∙◌}
-use Rattle.std.specs.Prelude.{◌||◌, if◌then◌else◌, Some, Option, Contains, ◌⊎◌}
+use Rattle.std.proofs.Common.{◌≡◌, ℕ, Bool, true, false, not, List, [], ◌∷◌, refl, sym, ap, ◌∙◌}
+use Rattle.std.specs.Prelude.{◌||◌, if◌then◌else◌, Some, Contains}
 use Rattle.std.specs.HashMap.{get}
-use Rattle.type_arena.specs.Term.{Term, term, free_of, Rows, more_rows}
+use Rattle.type_arena.specs.Term.{Term, more_rows}
 use Rattle.type_arena.specs.Store.{Store, IsSound, node_at, row_types}
 use Rattle.type_arena.specs.Meaning.{term_of, rows_by, fields_by}
 use Rattle.type_arena.specs.declared.node.Node.{Node}

@@ -21,7 +21,9 @@ use Rattle.type_normal.specs.Shape.{shape_of_fields, as_row}
 use Rattle.type_normal.specs.declared.shape.Shape.{Shape}
 use Rattle.type_normal.specs.Nodes.{is_nil, is_all_tables, all_tables, few_rows, heap_free_ones}
 use Rattle.type_normal.specs.Rows.{any_table}
+use Rattle.type_normal.specs.Growing.{given_refs, IsClean}
 use Rattle.type_normal.proofs.AddsFacts.{alone, uses_from}
+use Rattle.type_normal.proofs.CleanFacts.{interned_is_clean}
 
 -- an answer that was given
 pub adds_itself : (arena : Arena) (a : TypeRef) → Adds arena arena (record { refs = a ∷ []; literals = [] }) (a ∷ [])
@@ -57,6 +59,16 @@ rows_add old new a n node rows at e is fewer below home keeps kept uses = record
       (λ child inside. (a, n, alone a, e, fewer child (subst (λ (m : Node). Contains (refs_of m) child) is inside)))
       (λ h inside. (a, n, alone a, e, subst (λ (m : Node). Contains (literal_homes m.functions) h) is inside)) uses;
 }
+
+-- nothing else is reached from it than from the one that it was made of
+pub rows_clean : (old new : Arena) (a : TypeRef) (n node : Node) (rows : List Row) (at : TypeRef) → node_at (store_of old) a ≡ Some n → node ≡ record n { rows = rows }
+    → ((child : TypeRef) → Contains (row_types rows) child → Contains (row_types n.rows) child)
+    → node_at (store_of new) at ≡ Some node → at.home ≡ home_of new → home_of new ≡ home_of old → Keeps (store_of old) (store_of new)
+    → IsClean old new (given_refs (a ∷ [])) at
+rows_clean old new a n node rows at e is fewer made home own keeps =
+    interned_is_clean old new (a ∷ []) node at made home own keeps
+    (λ child inside. (a, n, alone a, e, fewer child (subst (λ (m : Node). Contains (refs_of m) child) is inside)))
+    (λ h inside. (a, n, alone a, e, subst (λ (m : Node). Contains (literal_homes m.functions) h) is inside))
 
 -- what such a node means
 pub rows_mean : (store : Store) → IsSound store → (a : TypeRef) (n node : Node) (rows : List Row) → node_at store a ≡ Some n → node ≡ record n { rows = rows }

@@ -1,17 +1,17 @@
 -- Written types: to the normal form belongs what belongs to the written type.
-use Rattle.std.proofs.Common.{◌≡◌, ℕ, Bool, true, false, not, List, refl, sym, ap, ◌∙◌}
-use Rattle.std.specs.Prelude.{◌||◌, ◌&&◌, if◌then◌else◌}
-use Rattle.type_arena.specs.Term.{Function, Free, Term, term, Rows, no_rows, more_rows, Fields, no_fields, more_fields, never}
+use Rattle.std.proofs.Common.{◌≡◌, ℕ, Bool, true, false, not, List, refl, ap, ◌∙◌}
+use Rattle.std.specs.Prelude.{◌||◌, ◌&&◌}
+use Rattle.type_arena.specs.Term.{Function, Free, Term, term, Rows, no_rows, more_rows, no_fields, more_fields}
 use Rattle.luau_values.specs.Value.{Value, Nil, Truth, Num, Str, Tab, Lit, Builtin, Other}
 use Rattle.luau_values.specs.Heap.{Heap, is_frozen, field_of}
 use Rattle.type_normal.specs.Free.{belongs, no_values, either_free}
-use Rattle.type_normal.specs.Rows.{put_normal, put_rows, rows_in_order, any_table}
+use Rattle.type_normal.specs.Rows.{put_normal, put_rows, rows_in_order}
 use Rattle.type_normal.specs.Holds.{holds, holds_rows, holds_fields}
 use Rattle.type_normal.specs.Operations.{union, meet, not_free, is_flat}
-use Rattle.type_normal.specs.Kinds.{unknown, nil_type, true_type, false_type, number_type, string_type, text_type, function_type, named_type, other_type, table_type, row_type}
+use Rattle.type_normal.specs.Kinds.{nil_type, true_type, false_type, number_type, string_type, text_type, function_type, named_type, other_type, table_type}
 use Rattle.type_normal.specs.TypeTerm.{TypeTerm, NeverTerm, UnknownTerm, NilTerm, TrueTerm, FalseTerm, NumberTerm, AnyStringTerm, StrTerm, FunctionTerm, NamedTerm, OtherTerm, TableTerm, PropsTerm, UnionTerm, MeetTerm, NotTerm, TypeTerms, no_terms, more_terms, Props, no_props, more_props, is_text, is_named, is_table_with, satisfies, some_satisfied, each_satisfied, all_satisfied, normal, normal_union, normal_meet, normal_fields, has_no_props, have_no_props, is_proper, are_proper, proper_props}
 use Rattle.type_normal.proofs.MembersFacts.{or_false}
-use Rattle.type_normal.proofs.HoldsFacts.{left, right, union_holds, meet_holds, not_free_holds, put_field_holds, belongs-same, put_normal_holds}
+use Rattle.type_normal.proofs.HoldsFacts.{left, right, union_holds, meet_holds, not_free_holds, put_field_holds, put_normal_holds}
 use Rattle.type_normal.proofs.FieldFacts.{unknown_all, never_none}
 
 -- the kinds, value by value
@@ -160,10 +160,10 @@ flat_any f g (more_rows false no_fields (more_rows b fs r)) e = cc
 flat_any f g (more_rows false (more_fields p t fs) r) e = cc
 flat_any f g (more_rows true fs r) e = cc
 
-flat_union : (t u : Term) → is_flat t ≡ true → is_flat u ≡ true → is_flat (union t u) ≡ true
+pub flat_union : (t u : Term) → is_flat t ≡ true → is_flat u ≡ true → is_flat (union t u) ≡ true
 flat_union (term f r) (term g s) e k = flat_put r s (either_free f g) (flat_any f (either_free f g) r e) (flat_any g (either_free f g) s k)
 
-flat_meet : (t u : Term) → is_flat t ≡ true → is_flat u ≡ true → is_flat (meet t u) ≡ true
+pub flat_meet : (t u : Term) → is_flat t ≡ true → is_flat u ≡ true → is_flat (meet t u) ≡ true
 flat_meet (term f no_rows) (term g s) e k = refl
 flat_meet (term f (more_rows false no_fields no_rows)) (term g no_rows) e k = refl
 flat_meet (term f (more_rows false no_fields no_rows)) (term g (more_rows false no_fields no_rows)) e k = refl

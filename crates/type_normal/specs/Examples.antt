@@ -1,6 +1,6 @@
 -- Types that the computed examples speak of.
 use Rattle.std.specs.Prelude.{ℕ, zero, suc, Bool, true, List, replicate, codes}
-use Rattle.type_arena.specs.Term.{Term, term, never, Rows, no_rows, more_rows, Fields, no_fields, more_fields}
+use Rattle.type_arena.specs.Term.{Term, term, never, no_rows, more_rows, Fields, no_fields, more_fields}
 use Rattle.type_normal.specs.Free.{no_values}
 use Rattle.type_normal.specs.Operations.{union}
 use Rattle.type_normal.specs.Kinds.{nil_type, string_type, text_type, field_is, row_type}

@@ -10,6 +10,7 @@ pub mod Field
 pub mod Examples
 pub mod Failing
 pub mod Adds
+pub mod Growing
 pub mod Nodes
 pub mod Shape
 pub mod TypeTerm

@@ -4,7 +4,7 @@ use Rattle.std.specs.Prelude.{ℕ, Bool, true, false, not, ◌&&◌, ◌||◌, L
 use Rattle.std.specs.Bool.{beq}
 use Rattle.std.specs.Ordering.{is_eq}
 use Rattle.type_arena.specs.Term.{Function, builtin, literal, Term, Fields, no_fields, never}
-use Rattle.luau_values.specs.Value.{Value, Nil, Truth, Num, Str, Tab, Lit, Builtin, Other}
+use Rattle.luau_values.specs.Value.{Value, Truth, Str, Tab, Lit, Builtin}
 use Rattle.luau_values.specs.Heap.{Heap, is_frozen, field_of}
 use Rattle.type_normal.specs.Free.{name_cmp, function_cmp}
 use Rattle.type_normal.specs.Operations.{union, meet, not_free, put_field}

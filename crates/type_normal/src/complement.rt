@@ -6,6 +6,7 @@ ghost use Rattle.type_arena.specs.Meaning.{term_of};
 ghost use Rattle.type_arena.specs.Store.{has as has_node, refs_of};
 ghost use Rattle.type_arena.specs.Term.{free_of};
 ghost use Rattle.type_normal.specs.Adds.{Adds};
+ghost use Rattle.type_normal.specs.Growing.{given_refs, IsClean};
 ghost use Rattle.type_normal.specs.Free.{outside_free};
 ghost use Rattle.type_normal.specs.Holds.{holds};
 ghost use Rattle.type_normal.specs.Nodes.{complement_of, swapped};
@@ -23,9 +24,10 @@ pub fn not_free(alloc: Global, arena: &mut Arena<'_>, a: TypeRef) -> Result<Type
     ensures term { IfOk result (λ at. term_of (store_of arena.new) at ≡ not_free_term (term_of (store_of arena.old) a)) }
     ensures values { IfOk result (λ at. is_flat (term_of (store_of arena.old) a) ≡ true → (h : Heap) (v : Value) → holds h v (term_of (store_of arena.new) at) ≡ not (holds h v (term_of (store_of arena.old) a))) }
 
-    // The arena only gets nodes.
+    // The arena only gets nodes, and each home that is reached from the answer may be used.
     ensures there { IfOk result (λ at. IsTrue (has_node (store_of arena.new) at)) }
     ensures adds { IfOk result (λ at. Adds arena.old arena.new (record { refs = a ∷ []; literals = [] }) (at ∷ [])) }
+    ensures clean { IfOk result (λ at. IsClean arena.old arena.new (given_refs (a ∷ [])) at) }
     ensures err { OnErr result (Adds arena.old arena.new (record { refs = a ∷ []; literals = [] }) []) }
 {
     let node = complement(alloc, arena.node(a))?;

@@ -6,6 +6,7 @@ ghost use Rattle.type_arena.specs.Arena.{store_of};
 ghost use Rattle.type_arena.specs.Meaning.{term_of};
 ghost use Rattle.type_arena.specs.Store.{has as has_node};
 ghost use Rattle.type_normal.specs.Adds.{Adds};
+ghost use Rattle.type_normal.specs.Growing.{given_refs, IsClean};
 ghost use Rattle.type_normal.specs.Cut.{is_small, cut_down as cut_down_term, cut_up as cut_up_term};
 ghost use Rattle.type_normal.specs.Holds.{holds};
 ghost use Rattle.type_normal.specs.Nodes.{few_rows, is_all_tables};
@@ -24,9 +25,10 @@ pub fn cut_down(alloc: Global, arena: &mut Arena<'_>, a: TypeRef) -> Result<Type
     ensures term { IfOk result (λ at. term_of (store_of arena.new) at ≡ cut_down_term (term_of (store_of arena.old) a)) }
     ensures values { IfOk result (λ at. (h : Heap) (v : Value) → holds h v (term_of (store_of arena.new) at) ≡ true → holds h v (term_of (store_of arena.old) a) ≡ true) }
 
-    // The arena only gets nodes.
+    // The arena only gets nodes, and each home that is reached from the answer may be used.
     ensures there { IfOk result (λ at. IsTrue (has_node (store_of arena.new) at)) }
     ensures adds { IfOk result (λ at. Adds arena.old arena.new (record { refs = a ∷ []; literals = [] }) (at ∷ [])) }
+    ensures clean { IfOk result (λ at. IsClean arena.old arena.new (given_refs (a ∷ [])) at) }
     ensures err { OnErr result (Adds arena.old arena.new (record { refs = a ∷ []; literals = [] }) []) }
 {
     if is_small_at(alloc, arena, a)? {
@@ -47,9 +49,10 @@ pub fn cut_up(alloc: Global, arena: &mut Arena<'_>, a: TypeRef) -> Result<TypeRe
     ensures term { IfOk result (λ at. term_of (store_of arena.new) at ≡ cut_up_term (term_of (store_of arena.old) a)) }
     ensures values { IfOk result (λ at. (h : Heap) (v : Value) → holds h v (term_of (store_of arena.old) a) ≡ true → holds h v (term_of (store_of arena.new) at) ≡ true) }
 
-    // The arena only gets nodes.
+    // The arena only gets nodes, and each home that is reached from the answer may be used.
     ensures there { IfOk result (λ at. IsTrue (has_node (store_of arena.new) at)) }
     ensures adds { IfOk result (λ at. Adds arena.old arena.new (record { refs = a ∷ []; literals = [] }) (at ∷ [])) }
+    ensures clean { IfOk result (λ at. IsClean arena.old arena.new (given_refs (a ∷ [])) at) }
     ensures err { OnErr result (Adds arena.old arena.new (record { refs = a ∷ []; literals = [] }) []) }
 {
     if is_small_at(alloc, arena, a)? {

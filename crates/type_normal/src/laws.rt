@@ -1,14 +1,14 @@
 //! What holds of all types, values and heaps. Each law is the contract of a function that does nothing.
 
 ghost use Rattle.std.specs.Prelude.{◌≡◌, ℕ, Bool, true, false, not, ◌||◌, ◌&&◌, List, Some};
-ghost use Rattle.type_arena.specs.Term.{Function, Free, Rows, Term, term, never};
-ghost use Rattle.luau_values.specs.Value.{Value, Nil, Str};
+ghost use Rattle.type_arena.specs.Term.{Function, builtin, literal, Free, Rows, Term, term, never};
+ghost use Rattle.luau_values.specs.Value.{Value, Nil, Str, Lit, Builtin};
 ghost use Rattle.luau_values.specs.Heap.{Heap};
 ghost use Rattle.type_normal.specs.Free.{is_normal_free};
 ghost use Rattle.type_normal.specs.Holds.{holds};
 ghost use Rattle.type_normal.specs.Rows.{is_empty, is_unknown};
 ghost use Rattle.type_normal.specs.Operations.{union, meet, not_free, is_flat, fail};
-ghost use Rattle.type_normal.specs.Kinds.{unknown, text_type, falsy, truthy, has_nil, exactly_one_function, is_falsy, IsFunction, Kinds, has_kind, kinds_type};
+ghost use Rattle.type_normal.specs.Kinds.{unknown, text_type, named_type, falsy, truthy, has_nil, exactly_one_function, is_falsy, IsFunction, Kinds, has_kind, kinds_type};
 ghost use Rattle.type_normal.specs.TypeTerm.{TypeTerm, satisfies, normal, is_proper};
 ghost use Rattle.type_normal.specs.Failing.{write_fail, unwritable, is_frozen_table};
 
@@ -88,6 +88,19 @@ pub fn one_string()
 pub fn one_function()
     ensures { (h : Heap) (v : Value) (t : Term) (f : Function) → exactly_one_function t ≡ Some f
         → holds h v t ≡ true → IsFunction f v }
+{}
+
+/// A named function belongs to its own type.
+pub fn a_named_function_is_of_its_type()
+    ensures builtins { (h : Heap) (path : List ℕ) → holds h (Builtin path) (named_type (builtin path)) ≡ true }
+    ensures literals { (h : Heap) (home number : ℕ) (cells : List (ℕ × ℕ)) → holds h (Lit home number cells) (named_type (literal home number)) ≡ true }
+{}
+
+/// Types whose rows are none, or the row of all tables alone, give such types.
+#[tactic(auto, using(crate::proofs::TypeTermFacts::flat_union, crate::proofs::TypeTermFacts::flat_meet))]
+pub fn flat_types_stay_flat()
+    ensures unions { (t u : Term) → is_flat t ≡ true → is_flat u ≡ true → is_flat (union t u) ≡ true }
+    ensures meets { (t u : Term) → is_flat t ≡ true → is_flat u ≡ true → is_flat (meet t u) ≡ true }
 {}
 
 /// Nil doesn't belong to a type without nil.

@@ -6,6 +6,7 @@ ghost use Rattle.type_arena.specs.Arena.{store_of};
 ghost use Rattle.type_arena.specs.Meaning.{term_of};
 ghost use Rattle.type_arena.specs.Store.{has as has_node, row_types};
 ghost use Rattle.type_normal.specs.Adds.{Adds};
+ghost use Rattle.type_normal.specs.Growing.{given_refs, IsClean};
 ghost use Rattle.type_normal.specs.HeapFree.{strip as strip_term, strip_at as strip_at_term};
 ghost use Rattle.type_normal.specs.Holds.{holds};
 ghost use Rattle.type_normal.specs.Listing.{stable_at};
@@ -27,9 +28,10 @@ pub fn strip(alloc: Global, arena: &mut Arena<'_>, a: TypeRef) -> Result<TypeRef
     ensures values { IfOk result (λ at. (h : Heap) (v : Value) → holds h v (term_of (store_of arena.new) at) ≡ true → holds h v (term_of (store_of arena.old) a) ≡ true) }
     ensures later { IfOk result (λ at. (h g : Heap) (v : Value) → Later h g → holds h v (term_of (store_of arena.new) at) ≡ true → holds g v (term_of (store_of arena.new) at) ≡ true) }
 
-    // The arena only gets nodes.
+    // The arena only gets nodes, and each home that is reached from the answer may be used.
     ensures there { IfOk result (λ at. IsTrue (has_node (store_of arena.new) at)) }
     ensures adds { IfOk result (λ at. Adds arena.old arena.new (record { refs = a ∷ []; literals = [] }) (at ∷ [])) }
+    ensures clean { IfOk result (λ at. IsClean arena.old arena.new (given_refs (a ∷ [])) at) }
     ensures err { OnErr result (Adds arena.old arena.new (record { refs = a ∷ []; literals = [] }) []) }
 {
     let found = arena.node(a);
@@ -70,9 +72,10 @@ pub fn strip_at(
     ensures values { IfOk result (λ at. (h : Heap) (v : Value) → holds h v (term_of (store_of arena.new) at) ≡ true → holds h v (term_of (store_of arena.old) a) ≡ true) }
     ensures written { IfOk result (λ at. (h : Heap) (t : ℕ) (u v : Value) → is_frozen h t ≡ false → holds h v (term_of (store_of arena.new) at) ≡ true → holds (with_field t name.now u h) v (term_of (store_of arena.new) at) ≡ true) }
 
-    // The arena only gets nodes.
+    // The arena only gets nodes, and each home that is reached from the answer may be used.
     ensures there { IfOk result (λ at. IsTrue (has_node (store_of arena.new) at)) }
     ensures adds { IfOk result (λ at. Adds arena.old arena.new (record { refs = a ∷ []; literals = [] }) (at ∷ [])) }
+    ensures clean { IfOk result (λ at. IsClean arena.old arena.new (given_refs (a ∷ [])) at) }
     ensures err { OnErr result (Adds arena.old arena.new (record { refs = a ∷ []; literals = [] }) []) }
 {
     let found = arena.node(a);

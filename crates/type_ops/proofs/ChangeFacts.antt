@@ -23,7 +23,7 @@ use Rattle.type_normal.proofs.AddsFacts.{there_kept, adds_none, alone}
 use Rattle.type_normal.proofs.RowsFacts.{all_fewer}
 use Rattle.type_normal.proofs.ShapeFacts.{field_item_holds, row_item_hold}
 use Rattle.type_ops.specs.Changed.{may_be_written, changed, changed_rows, changed_fields, raw_rows, IsChange, Changes, AreChanges}
-use Rattle.type_ops.specs.Growing.{given_refs, IsClean}
+use Rattle.type_normal.specs.Growing.{given_refs, IsClean}
 use Rattle.type_ops.specs.Lists.{append_rows}
 use Rattle.type_ops.specs.Normalized.{normal_of}
 use Rattle.type_ops.specs.declared.written.Written.{Written}

@@ -15,7 +15,8 @@ use Rattle.type_arena.specs.declared.node.TypeRef.{TypeRef}
 use Rattle.type_arena.proofs.MeaningLemmas.{fields_by-same, rows_by-same, Reaches-there, has-kept}
 use Rattle.type_normal.specs.Adds.{Adds}
 use Rattle.type_normal.proofs.AddsFacts.{FromRefs, FromLiterals, there_kept, adds_none}
-use Rattle.type_ops.specs.Growing.{given_refs, IsClean}
+use Rattle.type_normal.proofs.CleanFacts.{home_back}
+use Rattle.type_normal.specs.Growing.{given_refs, IsClean}
 
 nothing_in : {X : Type 0} (x : X) → Contains [] x → ⊥
 nothing_in x h = let l : h.0 < 0 = h.1 in omega arith
@@ -40,19 +41,6 @@ may_reach store own refs more from home (given_literal h inside) = absurd (nothi
 may_reach store own refs more from home (reached at h inside way) =
     let f = from at inside in
     reached f.0 h f.1 (home_join store f.0 at h f.2 way)
-
--- what is reached in a store that has got nodes, from what was there, was reached before
-reach_back : (old new : Store) → IsSound old → Keeps old new → {at far : TypeRef} → Reaches new at far → IsTrue (has old at) → Reaches old at far
-reach_back old new sound keeps itself there = itself
-reach_back old new sound keeps (through {at = at} {child = child} node e inside rest) there =
-    let same : node_at old at ≡ Some node = has-kept old new keeps at there ∙ e in
-    through node same inside (reach_back old new sound keeps rest (All-contains (λ c. IsTrue (has old c)) (refs_of node) child (sound.there at node same) inside))
-
-pub home_back : (old new : Store) → IsSound old → Keeps old new → (at : TypeRef) (home : ℕ) → ReachesHome new at home → IsTrue (has old at) → ReachesHome old at home
-home_back old new sound keeps at home (by_ref far way) there = by_ref far (reach_back old new sound keeps way there)
-home_back old new sound keeps at home (by_literal far node h way e inside) there =
-    let w : Reaches old at far = reach_back old new sound keeps way there in
-    by_literal far node h w (has-kept old new keeps far (Reaches-there old sound w there) ∙ e) inside
 
 pub may_back : (old new : Store) → IsSound old → Keeps old new → (own : ℕ) (refs : List TypeRef) → ((at : TypeRef) → Contains refs at → IsTrue (has old at))
     → (home : ℕ) → MayUse new own (given_refs refs) home → MayUse old own (given_refs refs) home

@@ -15,7 +15,7 @@ use Rattle.type_normal.specs.Operations.{put_field, meet, meet_fields}
 use Rattle.type_normal.proofs.AddsFacts.{there_kept}
 use Rattle.type_normal.proofs.RowsFacts.{all_fewer}
 use Rattle.type_normal.proofs.ShapeFacts.{row_item_hold}
-use Rattle.type_ops.specs.Growing.{given_refs, IsClean}
+use Rattle.type_normal.specs.Growing.{given_refs, IsClean}
 use Rattle.type_ops.specs.Lists.{append_rows}
 use Rattle.type_ops.specs.Met.{met_each, met_rows}
 use Rattle.type_ops.proofs.ChangeFacts.{weight, weight_of_rows, weight_of_fields, rows_push, rows_none_more, all_row_push, drop_all, field_push}

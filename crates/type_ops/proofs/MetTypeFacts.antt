@@ -21,7 +21,7 @@ use Rattle.type_normal.specs.Rows.{put_normal}
 use Rattle.type_normal.proofs.AddsFacts.{there_kept, alone}
 use Rattle.type_normal.proofs.RowsFacts.{all_fewer}
 use Rattle.type_normal.proofs.ShapeFacts.{field_holds_at, field_item_holds}
-use Rattle.type_ops.specs.Growing.{given_refs, IsClean}
+use Rattle.type_normal.specs.Growing.{given_refs, IsClean}
 use Rattle.type_ops.specs.Lists.{append_rows, name_place}
 use Rattle.type_ops.specs.Met.{met_each, met_rows, both_node, IsMet, Meets, AreMeets}
 use Rattle.type_ops.specs.Normalized.{normal_of}

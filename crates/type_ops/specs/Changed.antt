@@ -12,7 +12,7 @@ use Rattle.type_arena.specs.declared.arena.Arena.{Arena}
 use Rattle.type_arena.specs.declared.node.TypeRef.{TypeRef}
 use Rattle.type_arena.specs.contracts.node.TypeRefPartialEq.TheImpl as TypeRefEq
 use Rattle.type_normal.specs.Rows.{put_normal}
-use Rattle.type_ops.specs.Growing.{given_refs, IsClean}
+use Rattle.type_normal.specs.Growing.{given_refs, IsClean}
 use Rattle.type_ops.specs.declared.written.Written.{Written}
 use Rattle.type_ops.specs.declared.written.Written.TheVariants.{AnyField, Named}
 

@@ -13,7 +13,7 @@ use Rattle.type_arena.specs.declared.node.Row.{Row}
 use Rattle.type_arena.specs.declared.node.TypeRef.{TypeRef}
 use Rattle.type_normal.specs.Free.{name_cmp}
 use Rattle.type_normal.specs.Operations.{meet, meet_fields}
-use Rattle.type_ops.specs.Growing.{given_refs, IsClean}
+use Rattle.type_normal.specs.Growing.{given_refs, IsClean}
 use Rattle.type_ops.specs.Joined.{fn_cmp}
 use Rattle.type_ops.specs.Lists.{append_rows}
 use Rattle.type_ops.specs.Sets.{both_among}

@@ -7,7 +7,7 @@ ghost use Rattle.type_arena.specs.Store.{has as has_node, row_types};
 ghost use Rattle.type_normal.specs.Adds.{Adds};
 ghost use Rattle.type_normal.specs.Holds.{holds};
 ghost use Rattle.type_normal.specs.Operations.{union as union_term};
-ghost use Rattle.type_ops.specs.Growing.{given_refs, IsClean};
+ghost use Rattle.type_normal.specs.Growing.{given_refs, IsClean};
 ghost use Rattle.type_ops.specs.Joined.{either_node, union_node};
 
 use crate::sets::either;

@@ -7,7 +7,7 @@ ghost use Rattle.type_arena.specs.Store.{has as has_node, row_types, field_types
 ghost use Rattle.type_normal.specs.Adds.{Adds};
 ghost use Rattle.type_normal.specs.Holds.{holds};
 ghost use Rattle.type_normal.specs.Operations.{meet as meet_term, meet_fields as meet_fields_of, put_field as put_field_of};
-ghost use Rattle.type_ops.specs.Growing.{given_refs, IsClean};
+ghost use Rattle.type_normal.specs.Growing.{given_refs, IsClean};
 ghost use Rattle.type_ops.specs.Lists.{append_rows};
 ghost use Rattle.type_ops.specs.Met.{met_each, met_rows, both_node, AreMeets};
 

@@ -9,7 +9,7 @@ ghost use Rattle.type_normal.specs.Adds.{Adds};
 ghost use Rattle.type_normal.specs.HeapFree.{widen as widen_term, widen_at as widen_at_term};
 ghost use Rattle.type_normal.specs.Holds.{holds};
 ghost use Rattle.type_ops.specs.Changed.{changed, changed_fields, raw_rows, AreChanges};
-ghost use Rattle.type_ops.specs.Growing.{given_refs, IsClean};
+ghost use Rattle.type_normal.specs.Growing.{given_refs, IsClean};
 
 use crate::copying::copy_node;
 use crate::normalizing::normal_rows;

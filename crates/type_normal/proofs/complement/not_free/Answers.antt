@@ -12,6 +12,7 @@ use Rattle.type_normal.specs.Operations.{not_free}
 use Rattle.type_normal.proofs.HoldsFacts.{not_free_holds}
 use Rattle.type_normal.proofs.AddsFacts.{FromRefs, FromLiterals, ok_more, interned_adds}
 use Rattle.type_normal.proofs.ComplementFacts.{complement_means, complement_refs, complement_literals}
+use Rattle.type_normal.proofs.CleanFacts.{interned_is_clean, ok_both}
 use Rattle.type_normal.proofs.complement.not_free.Goals.{After-intern}
 use Rattle.type_normal.proofs.complement.not_free.Goals as goal
 
@@ -42,3 +43,12 @@ returns-clause-adds c =
     (subst (λ (n : Node). (home : ℕ) → Contains (literal_homes n.functions) home → FromLiterals (store_of c.args.arena.now) (c.args.a ∷ []) home) (sym c.in_ok-node.ensures)
     (complement_literals (store_of c.args.arena.now) c.args.a c.node.result.now c.node.ensures))
     c.intern.ensures.homes
+
+pub returns-clause-clean : goal.returns-clause-clean
+returns-clause-clean c =
+    ok_both c.intern.result _ _ _ c.intern.ensures.node c.intern.ensures.home
+    (λ at made home. interned_is_clean c.args.arena.now c.intern.new.self (c.args.a ∷ []) c.in_ok-node.node at made home c.intern.ensures.own_home c.intern.ensures.keeps
+    (subst (λ (n : Node). (child : TypeRef) → Contains (refs_of n) child → FromRefs (store_of c.args.arena.now) (c.args.a ∷ []) child) (sym c.in_ok-node.ensures)
+    (complement_refs (store_of c.args.arena.now) (c.args.a ∷ []) c.node.result.now))
+    (subst (λ (n : Node). (home : ℕ) → Contains (literal_homes n.functions) home → FromLiterals (store_of c.args.arena.now) (c.args.a ∷ []) home) (sym c.in_ok-node.ensures)
+    (complement_literals (store_of c.args.arena.now) c.args.a c.node.result.now c.node.ensures)))

@@ -11,7 +11,8 @@ use Rattle.type_normal.specs.Rows.{any_table}
 use Rattle.type_normal.specs.Holds.{holds}
 use Rattle.type_normal.specs.Nodes.{few_rows}
 use Rattle.type_normal.proofs.HeapFreeFacts.{cut_down_below}
-use Rattle.type_normal.proofs.RowsFacts.{adds_itself, rows_add, rows_mean, few_mean, few_refs, large_down}
+use Rattle.type_normal.proofs.RowsFacts.{adds_itself, rows_add, rows_mean, few_mean, few_refs, large_down, rows_clean}
+use Rattle.type_normal.proofs.CleanFacts.{itself_is_clean}
 use Rattle.type_normal.proofs.cut.cut_down.Goals.{In_ok-at}
 use Rattle.type_normal.proofs.cut.cut_down.Goals as goal
 
@@ -43,3 +44,12 @@ returns-clause-adds c =
     rows_add c.args.arena.now c.intern.new.self c.args.a c.node-found.result.now c.in_ok-node.node c.in_ok-rows.rows c.in_ok-at.at c.node-found.ensures c.in_ok-node.ensures
     (λ child inside. absurd (no_refs c child inside))
     c.in_ok-at.ensures.below c.in_ok-at.ensures.own_home c.in_ok-at.ensures.keeps c.in_ok-at.ensures.kept c.in_ok-at.ensures.homes
+
+pub returns-clause-clean : goal.returns-clause-clean
+returns-clause-clean c =
+    rows_clean c.args.arena.now c.intern.new.self c.args.a c.node-found.result.now c.in_ok-node.node c.in_ok-rows.rows c.in_ok-at.at c.node-found.ensures c.in_ok-node.ensures
+    (λ child inside. absurd (no_refs c child inside))
+    c.in_ok-at.ensures.node c.in_ok-at.ensures.home c.in_ok-at.ensures.own_home c.in_ok-at.ensures.keeps
+
+pub returns-then-branch-clause-clean : goal.returns-then-branch-clause-clean
+returns-then-branch-clause-clean c = itself_is_clean c.args.arena.now c.args.a

@@ -8,7 +8,7 @@ use Rattle.type_normal.specs.HeapFree.{heap_free, strip, strip_rows}
 use Rattle.type_normal.specs.Holds.{holds}
 use Rattle.type_normal.specs.Nodes.{heap_free_ones}
 use Rattle.type_normal.proofs.HeapFreeFacts.{strip_below, strip_free, free_later}
-use Rattle.type_normal.proofs.RowsFacts.{rows_add, rows_mean, rows_there, stripped_mean, stripped_refs}
+use Rattle.type_normal.proofs.RowsFacts.{rows_add, rows_mean, rows_there, stripped_mean, stripped_refs, rows_clean}
 use Rattle.type_normal.proofs.stripping.strip.Goals.{In_ok-at}
 use Rattle.type_normal.proofs.stripping.strip.Goals as goal
 
@@ -44,3 +44,9 @@ intern-requires c =
     rows_there (store_of c.args.arena.now) c.args.arena.now.sound c.args.a c.node-found.result.now c.in_ok-node.node c.in_ok-rows.rows c.node-found.ensures c.in_ok-node.ensures
     (λ child inside. stripped_refs (term_of (store_of c.args.arena.now)) c.node-found.result.now.rows child
     (subst (λ (rows : List Row). Contains (row_types rows) child) (c.in_ok-rows.ensures ∙ ap (heap_free_ones (term_of (store_of c.args.arena.now))) c.as_slice.ensures) inside))
+
+pub returns-clause-clean : goal.returns-clause-clean
+returns-clause-clean c =
+    rows_clean c.args.arena.now c.intern.new.self c.args.a c.node-found.result.now c.in_ok-node.node c.in_ok-rows.rows c.in_ok-at.at c.node-found.ensures c.in_ok-node.ensures
+    (λ child inside. stripped_refs (term_of (store_of c.args.arena.now)) c.node-found.result.now.rows child (subst (λ (rows : List Row). Contains (row_types rows) child) (rows_are c) inside))
+    c.in_ok-at.ensures.node c.in_ok-at.ensures.home c.in_ok-at.ensures.own_home c.in_ok-at.ensures.keeps

@@ -10,7 +10,7 @@ use Rattle.type_normal.specs.Listing.{stable_at}
 use Rattle.type_normal.proofs.HeapFreeFacts.{strip_at_below}
 use Rattle.type_normal.proofs.FreeOfFacts.{strip_at_of, free_of_written}
 use Rattle.type_normal.proofs.ListingFacts.{stable_mean, stable_refs}
-use Rattle.type_normal.proofs.RowsFacts.{rows_add, rows_mean, rows_there}
+use Rattle.type_normal.proofs.RowsFacts.{rows_add, rows_mean, rows_there, rows_clean}
 use Rattle.type_normal.proofs.stripping.strip_at.Goals.{In_ok-at}
 use Rattle.type_normal.proofs.stripping.strip_at.Goals as goal
 
@@ -47,3 +47,9 @@ intern-requires c =
     rows_there (store_of c.args.arena.now) c.args.arena.now.sound c.args.a c.node-found.result.now c.in_ok-node.node c.in_ok-rows.rows c.node-found.ensures c.in_ok-node.ensures
     (λ child inside. stable_refs c.args.name.now (term_of (store_of c.args.arena.now)) c.node-found.result.now.rows child
     (subst (λ (rows : List Row). Contains (row_types rows) child) (c.in_ok-rows.ensures ∙ ap (stable_at c.args.name.now (term_of (store_of c.args.arena.now))) c.as_slice.ensures) inside))
+
+pub returns-clause-clean : goal.returns-clause-clean
+returns-clause-clean c =
+    rows_clean c.args.arena.now c.intern.new.self c.args.a c.node-found.result.now c.in_ok-node.node c.in_ok-rows.rows c.in_ok-at.at c.node-found.ensures c.in_ok-node.ensures
+    (λ child inside. stable_refs c.args.name.now (term_of (store_of c.args.arena.now)) c.node-found.result.now.rows child (subst (λ (rows : List Row). Contains (row_types rows) child) (rows_are c) inside))
+    c.in_ok-at.ensures.node c.in_ok-at.ensures.home c.in_ok-at.ensures.own_home c.in_ok-at.ensures.keeps

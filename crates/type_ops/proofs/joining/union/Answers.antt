@@ -11,7 +11,7 @@ use Rattle.type_normal.specs.Holds.{holds}
 use Rattle.type_normal.specs.Operations.{union}
 use Rattle.type_normal.proofs.AddsFacts.{FromRefs, FromLiterals, uses_from}
 use Rattle.type_normal.proofs.Public.{union_holds}
-use Rattle.type_ops.specs.Growing.{given_refs}
+use Rattle.type_normal.specs.Growing.{given_refs}
 use Rattle.type_ops.proofs.GrowFacts.{interned_clean, refs_clean, literals_may}
 use Rattle.type_ops.proofs.JoinFacts.{union_means, union_there, union_refs, union_literals}
 use Rattle.type_ops.proofs.joining.union.Goals.{In_ok-at}

@@ -10,7 +10,7 @@ use Rattle.type_arena.specs.declared.node.TypeRef.{TypeRef}
 use Rattle.type_normal.proofs.AddsFacts.{there_kept}
 use Rattle.type_normal.proofs.RowsFacts.{all_fewer}
 use Rattle.type_normal.proofs.ShapeFacts.{row_item_hold, field_item_holds}
-use Rattle.type_ops.specs.Growing.{given_refs}
+use Rattle.type_normal.specs.Growing.{given_refs}
 use Rattle.type_ops.proofs.ChangeFacts.{weight, weight_of_rows, weight_of_fields, row_weight, weight_of_node}
 use Rattle.type_ops.proofs.MeetFacts.{FieldsMet, RowMet, RowsMet, fields_met_begun, fields_met_more, fields_met_done, put_adds, put_there, put_weight, row_met_begun, row_met_more, row_met_done, other_adds, rows_met_begun, rows_met_more, rows_met_done, row_of_adds}
 use Rattle.type_ops.proofs.MetTypeFacts.{pair_adds, TypeMet, type_met, meets_more, made_met, both_there, item_adds, typed_clean, inserted_clean, all_typed, all_inserted, field_met, field_goes, set_typed}

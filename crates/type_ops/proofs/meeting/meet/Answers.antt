@@ -3,7 +3,7 @@ use Rattle.type_arena.specs.Arena.{store_of}
 use Rattle.type_arena.specs.Meaning.{term_of}
 use Rattle.type_normal.specs.Holds.{holds}
 use Rattle.type_normal.proofs.Public.{meet_holds}
-use Rattle.type_ops.specs.Growing.{given_refs}
+use Rattle.type_normal.specs.Growing.{given_refs}
 use Rattle.type_ops.proofs.GrowFacts.{adds_clean}
 use Rattle.type_ops.proofs.meeting.meet.Goals as goal
 

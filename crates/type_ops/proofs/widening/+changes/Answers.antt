@@ -13,7 +13,7 @@ use Rattle.type_normal.specs.Adds.{Adds}
 use Rattle.type_normal.proofs.AddsFacts.{there_kept}
 use Rattle.type_normal.proofs.RowsFacts.{all_fewer}
 use Rattle.type_normal.proofs.ShapeFacts.{field_item_holds, row_item_hold}
-use Rattle.type_ops.specs.Growing.{given_refs}
+use Rattle.type_normal.specs.Growing.{given_refs}
 use Rattle.type_ops.proofs.ChangeFacts.{weight, weight_of_rows, weight_of_fields, field_weight, row_weight, weight_of_node, FieldsMade, RowsMade, field_lost, field_adds, field_more, fields_done, row_adds, row_more, rows_done, type_adds, TypeMade, type_made, changes_more, made_change}
 use Rattle.type_ops.proofs.GrowFacts.{adds_failed, fields_kept}
 use Rattle.type_ops.proofs.widening.+changes.Goals as goal

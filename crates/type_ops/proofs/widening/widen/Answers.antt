@@ -4,7 +4,7 @@ use Rattle.type_arena.specs.Meaning.{term_of}
 use Rattle.type_normal.specs.HeapFree.{heap_free, widen}
 use Rattle.type_normal.specs.Holds.{holds}
 use Rattle.type_normal.proofs.Public.{widen_above, widen_free, free_later}
-use Rattle.type_ops.specs.Growing.{given_refs}
+use Rattle.type_normal.specs.Growing.{given_refs}
 use Rattle.type_ops.proofs.ChangeFacts.{any_widens}
 use Rattle.type_ops.proofs.GrowFacts.{adds_clean}
 use Rattle.type_ops.proofs.widening.widen.Goals as goal

@@ -5,7 +5,7 @@ use Rattle.type_normal.specs.HeapFree.{free_of_name, widen_at}
 use Rattle.type_normal.specs.Holds.{holds}
 use Rattle.type_normal.proofs.Public.{widen_at_above, widen_at_of, free_of_written}
 use Rattle.type_ops.specs.Changed.{changed}
-use Rattle.type_ops.specs.Growing.{given_refs}
+use Rattle.type_normal.specs.Growing.{given_refs}
 use Rattle.type_ops.specs.declared.written.Written.TheVariants.{Named}
 use Rattle.type_ops.proofs.ChangeFacts.{one_widens}
 use Rattle.type_ops.proofs.GrowFacts.{adds_clean}

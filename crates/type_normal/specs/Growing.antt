@@ -1,5 +1,5 @@
 -- Which homes are reached from what a call has made.
-use Rattle.std.specs.Prelude.{ℕ, List, [], ◌∷◌}
+use Rattle.std.specs.Prelude.{ℕ, List, []}
 use Rattle.type_arena.specs.Arena.{home_of, store_of}
 use Rattle.type_arena.specs.Homes.{ReachesHome, Given, MayUse}
 use Rattle.type_arena.specs.declared.arena.Arena.{Arena}
