@@ -19,7 +19,7 @@ use Rattle.type_arena.specs.declared.node.TypeRef.{TypeRef}
 use Rattle.type_normal.specs.Kinds.{unknown}
 use Rattle.report_rules.specs.Rules.{Rules, loose}
 use Rattle.report_rules.specs.Guard.{guard, guarded}
-use Rattle.type_ops.specs.Growing.{given_refs, IsClean}
+use Rattle.type_normal.specs.Growing.{given_refs, IsClean}
 use Rattle.guards.specs.Lists.{entry_meant, meant, type_in, is_listed, has_local, refs_listed}
 use Rattle.guards.specs.Made.{made}
 use Rattle.guards.specs.Own.{IsOwn}

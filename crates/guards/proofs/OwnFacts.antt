@@ -10,8 +10,9 @@ use Rattle.type_arena.specs.declared.node.Node.{Node}
 use Rattle.type_arena.specs.declared.node.TypeRef.{TypeRef}
 use Rattle.type_normal.specs.Adds.{Adds}
 use Rattle.type_normal.proofs.AddsFacts.{there_kept}
-use Rattle.type_ops.specs.Growing.{given_refs, IsClean}
-use Rattle.type_ops.proofs.GrowFacts.{adds_nothing, adds_more, home_back}
+use Rattle.type_normal.specs.Growing.{given_refs, IsClean}
+use Rattle.type_normal.proofs.CleanFacts.{home_back}
+use Rattle.type_ops.proofs.GrowFacts.{adds_nothing, adds_more}
 use Rattle.guards.specs.Own.{IsOwn}
 
 nothing_in : {X : Type 0} (x : X) → Contains [] x → ⊥

@@ -7,13 +7,13 @@ use Rattle.std.specs.declared.cmp.Ordering.{Ordering}
 use Rattle.std.specs.declared.cmp.Ordering.TheVariants.{Less, Equal, Greater}
 use Rattle.std.specs.Ordering.{nat_cmp}
 use Rattle.luau_scope.specs.Laws.{AscendFrom}
-use Rattle.type_arena.specs.Term.{Free, Rows, no_rows, more_rows, Fields, no_fields, more_fields, Term, term}
+use Rattle.type_arena.specs.Term.{Term, term}
 use Rattle.type_normal.specs.Free.{is_normal_free}
 use Rattle.type_normal.specs.Kinds.{unknown}
 use Rattle.type_normal.specs.Members.{by_order}
 use Rattle.type_normal.specs.Operations.{union, meet, is_flat}
 use Rattle.type_normal.specs.Rows.{is_normal, are_normal_rows}
-use Rattle.type_normal.proofs.Public.{unknown_or, or_unknown, unknown_and, and_unknown}
+use Rattle.type_normal.proofs.Public.{unknown_or, or_unknown, unknown_and, and_unknown, flat_union, flat_meet}
 use Rattle.type_ops.proofs.KeepFacts.{union_normal, meet_normal}
 use Rattle.guards.specs.Lists.{alone_type, alone, together, beside, joined, type_in, is_listed}
 use Rattle.guards.specs.declared.joining.Join.{Join}
@@ -33,35 +33,9 @@ left : (a b : Bool) → a && b ≡ true → a ≡ true
 left true b e = refl
 left false b e = cc
 
-union_flat : (t u : Term) → is_flat t ≡ true → is_flat u ≡ true → is_flat (union t u) ≡ true
-union_flat (term f no_rows) (term g no_rows) p q = refl
-union_flat (term f no_rows) (term g (more_rows false no_fields no_rows)) p q = refl
-union_flat (term f no_rows) (term g (more_rows false no_fields (more_rows b fs r))) p q = cc
-union_flat (term f no_rows) (term g (more_rows false (more_fields n t fs) r)) p q = cc
-union_flat (term f no_rows) (term g (more_rows true fs r)) p q = cc
-union_flat (term f (more_rows false no_fields no_rows)) (term g no_rows) p q = refl
-union_flat (term f (more_rows false no_fields no_rows)) (term g (more_rows false no_fields no_rows)) p q = refl
-union_flat (term f (more_rows false no_fields no_rows)) (term g (more_rows false no_fields (more_rows b fs r))) p q = cc
-union_flat (term f (more_rows false no_fields no_rows)) (term g (more_rows false (more_fields n t fs) r)) p q = cc
-union_flat (term f (more_rows false no_fields no_rows)) (term g (more_rows true fs r)) p q = cc
-union_flat (term f (more_rows false no_fields (more_rows b fs r))) u p q = cc
-union_flat (term f (more_rows false (more_fields n t fs) r)) u p q = cc
-union_flat (term f (more_rows true fs r)) u p q = cc
-
-meet_flat : (t u : Term) → is_flat t ≡ true → is_flat u ≡ true → is_flat (meet t u) ≡ true
-meet_flat (term f no_rows) (term g r) p q = refl
-meet_flat (term f (more_rows false no_fields no_rows)) (term g no_rows) p q = refl
-meet_flat (term f (more_rows false no_fields no_rows)) (term g (more_rows false no_fields no_rows)) p q = refl
-meet_flat (term f (more_rows false no_fields no_rows)) (term g (more_rows false no_fields (more_rows b fs r))) p q = cc
-meet_flat (term f (more_rows false no_fields no_rows)) (term g (more_rows false (more_fields n t fs) r)) p q = cc
-meet_flat (term f (more_rows false no_fields no_rows)) (term g (more_rows true fs r)) p q = cc
-meet_flat (term f (more_rows false no_fields (more_rows b fs r))) u p q = cc
-meet_flat (term f (more_rows false (more_fields n t fs) r)) u p q = cc
-meet_flat (term f (more_rows true fs r)) u p q = cc
-
 pub together_plain : (how : Join) (t u : Term) → IsPlain t → IsPlain u → IsPlain (together how t u)
-together_plain Both t u p q = record { flat = meet_flat t u p.flat q.flat; normal = meet_normal t u p.normal q.normal }
-together_plain Either t u p q = record { flat = union_flat t u p.flat q.flat; normal = union_normal t u p.normal q.normal }
+together_plain Both t u p q = record { flat = flat_meet t u p.flat q.flat; normal = meet_normal t u p.normal q.normal }
+together_plain Either t u p q = record { flat = flat_union t u p.flat q.flat; normal = union_normal t u p.normal q.normal }
 
 pub alone_plain : (how : Join) (t : Term) → IsPlain t → IsPlain (alone_type how t)
 alone_plain Both t p = p

@@ -14,7 +14,7 @@ use Rattle.type_arena.specs.declared.arena.Arena.{Arena}
 use Rattle.type_arena.specs.declared.node.TypeRef.{TypeRef}
 use Rattle.type_normal.specs.Adds.{Adds}
 use Rattle.type_normal.specs.Members.{by_order}
-use Rattle.type_ops.specs.Growing.{given_refs}
+use Rattle.type_normal.specs.Growing.{given_refs}
 use Rattle.guards.specs.Lists.{entry_meant, meant, alone, together, beside, joined, named_meant, refs_named, refs_listed, beside_entry, side_by_side}
 use Rattle.guards.specs.Own.{IsOwn}
 use Rattle.guards.proofs.OwnFacts.{all_own_later}

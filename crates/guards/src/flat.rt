@@ -9,7 +9,7 @@ ghost use Rattle.type_arena.specs.declared.node.Among.TheVariants.{Only, AllBut}
 ghost use Rattle.type_arena.specs.declared.node.TypeRef.{TypeRef};
 ghost use Rattle.type_normal.specs.Adds.{Adds};
 ghost use Rattle.type_normal.specs.Operations.{not_free};
-ghost use Rattle.type_ops.specs.Growing.{given_refs};
+ghost use Rattle.type_normal.specs.Growing.{given_refs};
 ghost use Rattle.guards.specs.Flat.{flat_type, parts_type, claim_type};
 ghost use Rattle.guards.specs.Own.{IsOwn};
 

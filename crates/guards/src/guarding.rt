@@ -10,7 +10,7 @@ ghost use Rattle.type_arena.specs.Arena.{store_of};
 ghost use Rattle.type_arena.specs.Meaning.{term_of};
 ghost use Rattle.type_arena.specs.Store.{has as has_node};
 ghost use Rattle.type_normal.specs.Adds.{Adds};
-ghost use Rattle.type_ops.specs.Growing.{given_refs, IsClean};
+ghost use Rattle.type_normal.specs.Growing.{given_refs, IsClean};
 ghost use Rattle.guards.specs.Lists.{meant, type_in, has_local, joined as joined_entries, refs_listed};
 ghost use Rattle.guards.specs.Guards.{guard_refs};
 ghost use Rattle.guards.specs.Flat.{claim_type};

@@ -3,7 +3,7 @@ ghost use Rattle.std.specs.Prelude.{◌≡◌, [], IfOk, All};
 ghost use Rattle.type_arena.specs.Arena.{store_of};
 ghost use Rattle.type_arena.specs.Meaning.{term_of};
 ghost use Rattle.type_normal.specs.Adds.{Adds};
-ghost use Rattle.type_ops.specs.Growing.{given_refs};
+ghost use Rattle.type_normal.specs.Growing.{given_refs};
 ghost use Rattle.guards.specs.Lists.{entry_meant, meant, joined, alone_type, together, named_meant, refs_named, refs_listed};
 ghost use Rattle.guards.specs.Own.{IsOwn};
 

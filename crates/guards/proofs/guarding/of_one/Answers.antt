@@ -1,5 +1,5 @@
 use Rattle.std.proofs.Common.{[], ◌∷◌}
-use Rattle.type_ops.specs.Growing.{given_refs}
+use Rattle.type_normal.specs.Growing.{given_refs}
 use Rattle.guards.proofs.OwnFacts.{adds_then, own_later}
 use Rattle.guards.proofs.SideFacts.{one_own}
 use Rattle.guards.proofs.guarding.of_one.Goals as goal

@@ -4,7 +4,7 @@ use Rattle.luau_tree.specs.declared.names.LocalId.{LocalId}
 use Rattle.type_arena.specs.Arena.{store_of}
 use Rattle.type_arena.specs.Meaning.{term_of}
 use Rattle.type_arena.specs.declared.node.TypeRef.{TypeRef}
-use Rattle.type_ops.specs.Growing.{given_refs}
+use Rattle.type_normal.specs.Growing.{given_refs}
 use Rattle.guards.specs.Lists.{joined, meant, refs_listed}
 use Rattle.guards.specs.Own.{IsOwn}
 use Rattle.guards.proofs.OwnFacts.{adds_then, all_own_later}

@@ -3,7 +3,7 @@ use Rattle.std.specs.Prelude.{All}
 use Rattle.type_arena.specs.Arena.{store_of}
 use Rattle.type_arena.specs.Meaning.{term_of}
 use Rattle.type_normal.specs.Adds.{Adds}
-use Rattle.type_ops.specs.Growing.{given_refs}
+use Rattle.type_normal.specs.Growing.{given_refs}
 use Rattle.guards.specs.Lists.{meant, named_meant, refs_listed}
 use Rattle.guards.specs.Own.{IsOwn}
 use Rattle.guards.proofs.joining.joined.Given as goal
