@@ -1,5 +1,5 @@
 -- What a written type means, by the variant that code finds in it.
-use Rattle.std.proofs.Common.{◌≡◌, ℕ, zero, suc, ◌+◌, Bool, true, false, List, [], ◌∷◌, refl, sym, ap, ◌∙◌}
+use Rattle.std.proofs.Common.{◌≡◌, ℕ, zero, suc, ◌+◌, Bool, true, false, List, [], ◌∷◌, refl, sym, ap, ◌∙◌, arith}
 use Rattle.std.specs.Prelude.{Option, Some, None, if◌then◌else◌}
 use Rattle.luau_tree.specs.declared.tree as code
 use Rattle.luau_tree.specs.declared.tree.ExprKind.TheViews as part
@@ -35,18 +35,17 @@ pub str_form : (known : List Known) (x : code.TypeSyntax.TypeSyntax) (bytes : Li
 str_form known x bytes e = form known x _ (ap view_type_kind e ∙ str_type_seen bytes)
 
 pub name_form : (known : List Known) (x : code.TypeSyntax.TypeSyntax) (prefix : Option (List ℕ)) (name : List ℕ) (args : List code.TypeSyntax.TypeSyntax) → x.kind ≡ a_type.Named prefix name args
-    → prefix ≡ None → args ≡ [] → raw known (view_type x) ≡ named_type known name
-name_form known x prefix name args e p a =
-    form known x _ (ap view_type_kind e ∙ named_type_seen prefix name args) ∙ (λ i. raw_kind known (plain.Named (p i) name (view_types (a i))))
+    → raw known (view_type x) ≡ raw_kind known (plain.Named prefix name (view_types args))
+name_form known x prefix name args e = form known x _ (ap view_type_kind e ∙ named_type_seen prefix name args)
 
-pub prefix_form : (known : List Known) (x : code.TypeSyntax.TypeSyntax) (prefix : Option (List ℕ)) (name : List ℕ) (args : List code.TypeSyntax.TypeSyntax) → x.kind ≡ a_type.Named prefix name args
-    → (prefix ≡ None → args ≡ [] → ⊥) → raw known (view_type x) ≡ unknown
-prefix_form known x prefix name args e no = form known x _ (ap view_type_kind e ∙ named_type_seen prefix name args) ∙ by prefix args no
-  where
-    by : (p : Option (List ℕ)) (as : List code.TypeSyntax.TypeSyntax) → (p ≡ None → as ≡ [] → ⊥) → raw_kind known (plain.Named p name (view_types as)) ≡ unknown
-    by None [] n = absurd (n refl refl)
-    by None (a ∷ as) n = refl
-    by (Some p) as n = refl
+-- a bare name, and another one
+pub bare_name : (known : List Known) (prefix : Option (List ℕ)) (name : List ℕ) (args : List code.TypeSyntax.TypeSyntax) → prefix ≡ None → args ≡ [] → named_type known name ≡ raw_kind known (plain.Named prefix name (view_types args))
+bare_name known prefix name args p a = sym (λ i. raw_kind known (plain.Named (p i) name (view_types (a i))))
+
+pub other_name : (known : List Known) (prefix : Option (List ℕ)) (name : List ℕ) (args : List code.TypeSyntax.TypeSyntax) → ((prefix ≡ None) × (args ≡ []) → ⊥) → unknown ≡ raw_kind known (plain.Named prefix name (view_types args))
+other_name known None name [] no = absurd (no (refl, refl))
+other_name known None name (a ∷ args) no = refl
+other_name known (Some p) name args no = refl
 
 pub typeof_form : (known : List Known) (x : code.TypeSyntax.TypeSyntax) (e' : code.Expr.Expr) → x.kind ≡ a_type.Typeof e' → raw known (view_type x) ≡ unknown
 typeof_form known x e' e = form known x _ (ap view_type_kind e ∙ typeof_type_seen e')
@@ -102,3 +101,8 @@ marked_inside (suc n) t = ap (λ (s : Term). cut_up (union s nil_type)) (marked_
 
 pub mark_taken : (known : List Known) (n : ℕ) (x item : code.TypeSyntax.TypeSyntax) → x.kind ≡ a_type.Optional item → marked n (raw known (view_type x)) ≡ marked (suc n) (raw known (view_type item))
 mark_taken known n x item e = ap (marked n) (optional_form known x item e) ∙ marked_inside n (raw known (view_type item))
+
+pub mark_step : (known : List Known) (n : ℕ) (x item shown : code.TypeSyntax.TypeSyntax) → x.kind ≡ a_type.Optional item → shown ≡ item → marked (n + 1) (raw known (view_type shown)) ≡ marked n (raw known (view_type x))
+mark_step known n x item shown e same =
+    ap (λ (m : ℕ). marked m (raw known (view_type shown))) (let s : n + 1 ≡ suc n = omega arith in s)
+    ∙ ap (λ (y : code.TypeSyntax.TypeSyntax). marked (suc n) (raw known (view_type y))) same ∙ sym (mark_taken known n x item e)

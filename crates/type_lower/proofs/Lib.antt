@@ -7,3 +7,5 @@ pub mod FormFacts
 pub mod JoinedFacts
 pub mod VisibleFacts
 pub mod WalkFacts
+pub mod WeightFacts
+pub mod PutFacts

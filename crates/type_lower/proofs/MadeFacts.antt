@@ -178,3 +178,6 @@ typed_made r a b given t u made e = ok_more r _ _ made (λ at m. as_type a b giv
 pub then_made : {E : Type 0} (r : Result TypeRef E) (a b c : Arena) (given : List TypeRef) (x : TypeRef) (t u : Term) (f : Term → Term) → Made a b given x t → IfOk r (λ at. Made b c (x ∷ []) at (f (term_of (store_of b) x)))
     → f t ≡ u → IfOk r (λ at. Made a c given at u)
 then_made r a b c given x t u f first made e = ok_more r _ _ made (λ at m. as_type a c given at (f t) u (one_made a b c given x at t f first m) e)
+
+pub then_err : {E : Type 0} (r : Result TypeRef E) (a b c : Arena) (given : List TypeRef) (x : TypeRef) (t : Term) → Made a b given x t → OnErr r (Adds b c (given_refs (x ∷ [])) []) → OnErr r (Adds a c (given_refs given) [])
+then_err r a b c given x t first err = err_more r _ _ err (λ m. one_adds a b c given x t first m)

@@ -15,7 +15,8 @@ use Rattle.luau_tree.specs.Tree.{Prop, Props, PropKey, the_prop, NameKey, Indexe
 use Rattle.luau_tree.specs.View.{view_prop, view_prop_key, view_props, view_type}
 use Rattle.luau_tree.specs.declared.tree as code
 use Rattle.luau_tree.specs.declared.tree.ExprKind.TheViews as part
-use Rattle.luau_tree.proofs.Views.{prop_seen}
+use Rattle.luau_tree.specs.declared.tree.PropKey.TheVariants as a_key
+use Rattle.luau_tree.proofs.Views.{prop_seen, name_key_seen, indexer_key_seen}
 use Rattle.type_arena.specs.Term.{Term, Fields, no_fields, more_fields}
 use Rattle.type_normal.specs.Free.{name_cmp}
 use Rattle.type_normal.specs.Members.{by_order}
@@ -153,3 +154,12 @@ pub prop_put : (known : List Known) (ps : List code.Prop.Prop) (i : ℕ) (p : co
     → raw_fields known (view_props (take (i + 1) ps)) ≡ put_last name (raw known (view_type p.typ)) (raw_fields known (view_props (take i ps)))
 unfolding behind
 prop_put known ps i p name l is e = taken known ps i p l is ∙ ap (λ (n : Option (List ℕ)). behind n (raw known (view_type p.typ)) (raw_fields known (view_props (take i ps)))) e
+
+-- the name that code finds
+pub named_readable : (x : code.Prop.Prop) (name : List ℕ) (access : Access) → x.key ≡ a_key.Name name → x.access ≡ access → (if is_readable access then Some name else None) ≡ readable (view_prop x)
+named_readable x name access k a =
+    sym (ap readable (prop_layer x) ∙ (λ i. readable (the_prop (a i) ((ap view_prop_key k ∙ name_key_seen name) i) (view_type x.typ))))
+
+pub indexer_readable : (x : code.Prop.Prop) (key : code.TypeSyntax.TypeSyntax) → x.key ≡ a_key.Indexer key → None ≡ readable (view_prop x)
+indexer_readable x key k =
+    sym (ap readable (prop_layer x) ∙ (λ i. readable (the_prop x.access ((ap view_prop_key k ∙ indexer_key_seen key) i) (view_type x.typ))))

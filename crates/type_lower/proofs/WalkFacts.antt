@@ -1,6 +1,7 @@
 -- One step of each walk over written types.
-use Rattle.std.proofs.Common.{◌≡◌, ℕ, zero, suc, ◌+◌, ◌<◌, List, [], ◌∷◌, ◌++◌, length, get_or, take, drop, refl, sym, ap, ◌∙◌, subst, arith}
+use Rattle.std.proofs.Common.{◌≡◌, ℕ, zero, suc, ◌+◌, ◌<◌, ◌≤◌, List, [], ◌∷◌, ◌++◌, length, get_or, take, drop, refl, sym, ap, ◌∙◌, subst, arith}
 use Rattle.std.specs.Prelude.{false, IsTrue, All}
+use Rattle.std.proofs.Math.Seq.{take-length}
 use Rattle.std.proofs.lemmas.List.Elements.{All-nil, All-cons}
 use Rattle.std.specs.BTreeMap.{insert_entry}
 use Rattle.luau_tree.specs.Tree as plain
@@ -14,16 +15,20 @@ use Rattle.type_arena.specs.declared.arena.Arena.{Arena}
 use Rattle.type_arena.specs.declared.node.TypeRef.{TypeRef}
 use Rattle.type_normal.specs.Adds.{Adds}
 use Rattle.type_normal.specs.Free.{name_cmp}
-use Rattle.type_normal.specs.Kinds.{row_type}
+use Rattle.type_normal.specs.Cut.{cut_up}
+use Rattle.type_normal.specs.Kinds.{row_type, nil_type}
+use Rattle.type_normal.specs.Operations.{union}
 use Rattle.type_ops.specs.Growing.{given_refs, IsClean}
 use Rattle.type_ops.proofs.GrowFacts.{adds_nothing, all_clean_on, fields_kept}
 use Rattle.annotations.specs.Lowered.{Known, raw}
-use Rattle.type_lower.specs.Joined.{joined, all_joined}
+use Rattle.type_lower.specs.Joined.{joined, of_none, all_joined, marked}
 use Rattle.type_lower.specs.Made.{AreThere, Made, MadeFields}
 use Rattle.type_lower.specs.Visible.{known_in}
+use Rattle.type_lower.specs.Weight.{weight, weight_of_types}
 use Rattle.type_lower.specs.declared.choosing.Choice.{Choice}
-use Rattle.type_lower.proofs.JoinedFacts.{behind_taken}
-use Rattle.type_lower.proofs.MadeFacts.{made_again, made_on, adds_again, adds_after, made_after, both_made, known_kept, as_type, given_there}
+use Rattle.type_lower.proofs.JoinedFacts.{behind_taken, marks_stay}
+use Rattle.type_lower.proofs.MadeFacts.{made_again, made_on, adds_again, adds_after, made_after, one_made, both_made, both_adds, known_kept, as_type, given_there}
+use Rattle.type_lower.proofs.WeightFacts.{item_weight}
 use Rattle.type_lower.proofs.RowFacts.{put_last, inserted, inserted_all}
 
 -- a written type behind other calls means what it meant before
@@ -94,3 +99,46 @@ row_after a b c given fields listed types at made e row =
     as_type a c given at _ _
     (made_after a b c given (field_types listed) at _ made.adds (subst (λ (fs : List (List ℕ × TypeRef)). All (IsClean a b (given_refs given)) (field_types fs)) (sym e) made.clean) row)
     (ap (row_type false) (ap (fields_by (term_of (store_of b))) e ∙ made.means))
+
+-- a type that one mark doesn't change has all marks
+pub mark_fixed : (a b c : Arena) (given : List TypeRef) (x next : TypeRef) (i n : ℕ) (t : Term) → next ≡ x → Made a b given x (marked i t) → Made b c (x ∷ []) next (cut_up (union (term_of (store_of b) x) nil_type)) → i ≤ n
+    → Made a c given x (marked n t)
+mark_fixed a b c given x next i n t e so made l =
+    let step : Made a c given next (cut_up (union (marked i t) nil_type)) = one_made a b c given x next (marked i t) (λ (s : Term). cut_up (union s nil_type)) so made in
+    let still : Made a c given x (marked i t) = made_on a b c given (given_refs (x ∷ [])) [] x (marked i t) so made.adds step.adds in
+    let fixed : cut_up (union (marked i t) nil_type) ≡ marked i t = sym step.means ∙ ap (term_of (store_of c)) e ∙ still.means in
+    as_type a c given x (marked i t) (marked n t) still (sym (marks_stay i n t l fixed))
+
+-- no types, and all of them
+pub none_types : (choice : Choice) (known : List Known) (types : List code.TypeSyntax.TypeSyntax) → length types < 1 → of_none choice ≡ all_joined choice known (view_types types)
+none_types choice known [] l = refl
+none_types choice known (t ∷ ts) l = absurd (omega arith)
+
+pub list_done : (choice : Choice) (known : List Known) (types rest : List code.TypeSyntax.TypeSyntax) (i : ℕ) → rest ≡ drop 1 types → 0 < length types → i ≡ length rest
+    → all_joined choice known (view_types (take (i + 1) types)) ≡ all_joined choice known (view_types types)
+list_done choice known [] rest i r l e = absurd (omega arith)
+list_done choice known (t ∷ ts) rest i r l e =
+    ap (λ (us : List code.TypeSyntax.TypeSyntax). all_joined choice known (view_types us))
+    (take_one_more i t ts ∙ ap (λ (us : List code.TypeSyntax.TypeSyntax). t ∷ us) (ap (λ (n : ℕ). take n ts) (e ∙ ap length r) ∙ take-length ts))
+
+-- what the types of a list hold
+pub rest_weight : (types rest : List code.TypeSyntax.TypeSyntax) (i : ℕ) (x : code.TypeSyntax.TypeSyntax) → rest ≡ drop 1 types → i < length rest → x ≡ get_or rest i x → weight (view_type x) ≤ weight_of_types (view_types types)
+rest_weight [] rest i x r l is = absurd (let e : length rest ≡ 0 = ap length r in omega arith)
+rest_weight (t ∷ ts) rest i x r l is =
+    let inside : weight (view_type (get_or ts i x)) ≤ weight_of_types (view_types ts) = item_weight ts i x (subst (λ (us : List code.TypeSyntax.TypeSyntax). i < length us) r l) in
+    let same : weight (view_type x) ≡ weight (view_type (get_or ts i x)) = ap (λ (y : code.TypeSyntax.TypeSyntax). weight (view_type y)) (is ∙ ap (λ (us : List code.TypeSyntax.TypeSyntax). get_or us i x) r) in
+    omega arith
+
+pub first_weight : (types : List code.TypeSyntax.TypeSyntax) (x : code.TypeSyntax.TypeSyntax) → 0 < length types → x ≡ get_or types 0 x → weight (view_type x) ≤ weight_of_types (view_types types)
+first_weight types x l is =
+    subst (λ (y : code.TypeSyntax.TypeSyntax). weight (view_type y) ≤ weight_of_types (view_types types)) (sym is) (item_weight types 0 x l)
+
+pub list_adds : (a b c d : Arena) (aliases : List (List ℕ × TypeRef)) (x y : TypeRef) (t : Term) (type : plain.TypeSyntax) → AreThere a (field_types aliases)
+    → Made a b (field_types aliases) x t → Made b c (field_types aliases) y (raw (known_in b aliases) type) → Adds c d (given_refs (x ∷ y ∷ [])) [] → Adds a d (given_refs (field_types aliases)) []
+list_adds a b c d aliases x y t type there first second more =
+    let next = type_made a b c aliases y type there first.adds second in
+    both_adds a c d (field_types aliases) x y t (raw (known_in a aliases) type) (made_on a b c (field_types aliases) (given_refs (field_types aliases)) [] x t first second.adds next.adds) next more
+
+pub row_adds : (a b c : Arena) (given : List TypeRef) (fields listed : List (List ℕ × TypeRef)) (types : Fields) → MadeFields a b given fields types → listed ≡ fields → Adds b c (given_refs (field_types listed)) [] → Adds a c (given_refs given) []
+row_adds a b c given fields listed types made e more =
+    adds_after a b c given (field_types listed) made.adds (subst (λ (fs : List (List ℕ × TypeRef)). All (IsClean a b (given_refs given)) (field_types fs)) (sym e) made.clean) more

@@ -5,3 +5,4 @@ pub mod Joined
 pub mod Made
 pub mod Cutting
 pub mod Rowed
+pub mod Weight

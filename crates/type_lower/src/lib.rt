@@ -8,6 +8,7 @@ mod aliases;
 mod choosing;
 mod cutting;
 mod lowering;
+mod marks;
 mod plain;
 mod props;
 mod rows;

@@ -14,7 +14,8 @@ ghost use Rattle.type_lower.specs.Visible.{known_in};
 use crate::aliases::Aliases;
 use crate::choosing::{Choice, join, none_of, with_marks};
 use crate::cutting::cut;
-use crate::plain::{Plain, is_bare, named_ref, of_truth, plain_ref, text_ref};
+use crate::marks::unmarked;
+use crate::plain::{Plain, form_ref, of_truth, plain_ref, text_ref};
 use crate::props::{label, listed, readable_name};
 use crate::rows::row_ref;
 use luau_tree::{Prop, TypeKind, TypeSyntax};
@@ -44,7 +45,7 @@ pub fn lower(
     Ok(at)
 }
 
-// What a written type means, before the whole is cut. Its last marks are counted by a loop, since there may be thousands.
+// What a written type means, before the whole is cut.
 #[cycle(forms)]
 fn raw_type(
     alloc: Global,
@@ -56,15 +57,7 @@ fn raw_type(
     ensures made { IfOk result (λ at. Made arena.old arena.new (field_types aliases.now) at (raw_of (known_in arena.old aliases.now) (view_type typ.now))) }
     ensures err { OnErr result (Adds arena.old arena.new (given_refs (field_types aliases.now)) []) }
 {
-    let mut inner = typ;
-    let mut marks: u64 = 0;
-    while marks < u64::MAX {
-        let TypeKind::Optional(next) = &inner.kind else {
-            break;
-        };
-        inner = next.get();
-        marks += 1;
-    }
+    let (marks, inner) = unmarked(typ);
     let at = raw_form(alloc, arena, aliases, inner)?;
     with_marks(alloc, arena, at, marks)
 }
@@ -86,11 +79,7 @@ fn raw_form(
         TypeKind::Bool(truth) => plain_ref(alloc, arena, of_truth(*truth)),
         TypeKind::Str(bytes) => text_ref(alloc, arena, bytes),
         TypeKind::Named { prefix, name, args } => {
-            if is_bare(prefix, args.as_slice()) {
-                named_ref(alloc, arena, aliases, name)
-            } else {
-                plain_ref(alloc, arena, Plain::Unknown)
-            }
+            form_ref(alloc, arena, aliases, prefix, name, args.as_slice())
         }
         TypeKind::Typeof(_) => plain_ref(alloc, arena, Plain::Unknown),
         TypeKind::Array(_) => plain_ref(alloc, arena, Plain::Table),

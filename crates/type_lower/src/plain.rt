@@ -9,7 +9,9 @@ ghost use Rattle.type_arena.specs.declared.node.TypeRef.{TypeRef as Ref};
 ghost use Rattle.type_normal.specs.Adds.{Adds};
 ghost use Rattle.type_normal.specs.Kinds.{text_type, true_type, false_type};
 ghost use Rattle.type_ops.specs.Growing.{given_refs};
-ghost use Rattle.annotations.specs.Lowered.{own_type, named_type};
+ghost use Rattle.annotations.specs.Lowered.{own_type, named_type, raw_kind};
+ghost use Rattle.luau_tree.specs.Tree.{Named};
+ghost use Rattle.luau_tree.specs.View.{view_types};
 ghost use Rattle.type_lower.specs.Made.{Made, AreThere};
 ghost use Rattle.type_lower.specs.Plain.{plain_type, parts_type};
 ghost use Rattle.type_lower.specs.Visible.{known_in};
@@ -259,9 +261,30 @@ pub(crate) fn named_ref(
     }
 }
 
-/// Whether a name has no prefix and no arguments.
-pub(crate) fn is_bare(prefix: &Option<Bytes>, args: &[TypeSyntax]) -> bool
+// Whether a name has no prefix and no arguments.
+fn is_bare(prefix: &Option<Bytes>, args: &[TypeSyntax]) -> bool
     ensures { IsTrue result ↔ ((prefix.now ≡ None) × (args.now ≡ [])) }
 {
     prefix.is_none() && args.is_empty()
+}
+
+/// A reference to the type of a name with a prefix and arguments, where it has them.
+pub(crate) fn form_ref(
+    alloc: Global,
+    arena: &mut Arena<'_>,
+    aliases: &Aliases,
+    prefix: &Option<Bytes>,
+    name: &Bytes,
+    args: &[TypeSyntax],
+) -> Result<TypeRef, AllocError>
+    requires { AreThere arena.old (field_types aliases.now) }
+    ensures made { IfOk result (λ at. Made arena.old arena.new (field_types aliases.now) at (raw_kind (known_in arena.old aliases.now) (Named prefix.now name.now (view_types args.now)))) }
+    ensures err { OnErr result (Adds arena.old arena.new (given_refs (field_types aliases.now)) []) }
+{
+    let bare = is_bare(prefix, args);
+    if bare {
+        named_ref(alloc, arena, aliases, name)
+    } else {
+        plain_ref(alloc, arena, Plain::Unknown)
+    }
 }

@@ -14,7 +14,8 @@ pub(crate) fn readable_name(prop: &Prop) -> Option<&Bytes>
 {
     match &prop.key {
         PropKey::Name(name) => match prop.access {
-            Access::Both | Access::Read => Some(name),
+            Access::Both => Some(name),
+            Access::Read => Some(name),
             Access::Write => None,
         },
         PropKey::Indexer(_) => None,

@@ -28,11 +28,12 @@ fn alias_ref(
     ensures made { IfOk result (λ at. Made arena.old arena.new (field_types aliases.now) at (alias_type (known_in arena.old aliases.now) (view_gens generics.now) (view_type typ.now))) }
     ensures err { OnErr result (Adds arena.old arena.new (given_refs (field_types aliases.now)) []) }
 {
-    if generics.is_empty() {
-        lower(alloc, arena, aliases, typ)
-    } else {
-        plain_ref(alloc, arena, Plain::Unknown)
+    let bare = generics.is_empty();
+    if !bare {
+        return plain_ref(alloc, arena, Plain::Unknown);
     }
+    let at = lower(alloc, arena, aliases, typ)?;
+    Ok(at)
 }
 
 /// An alias becomes visible: its own type sees those before it alone. After want of memory the names are as before.

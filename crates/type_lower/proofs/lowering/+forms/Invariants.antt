@@ -1,11 +1,24 @@
-use Rattle.std.proofs.Common.{◌≡◌, ◌+◌, ◌-◌, List, take}
+use Rattle.std.proofs.Common.{◌+◌, ◌*◌, take}
 use Rattle.luau_tree.specs.View.{view_type, view_types, view_props}
 use Rattle.type_arena.specs.Store.{field_types}
-use Rattle.annotations.specs.Lowered.{Known, raw, raw_fields}
-use Rattle.type_lower.specs.Joined.{all_joined, marked}
+use Rattle.annotations.specs.Lowered.{raw_fields}
+use Rattle.type_lower.specs.Joined.{all_joined}
 use Rattle.type_lower.specs.Made.{Made, MadeFields}
 use Rattle.type_lower.specs.Visible.{known_in}
+use Rattle.type_lower.specs.Weight.{weight, weight_of_types, weight_of_props}
 use Rattle.type_lower.proofs.lowering.+forms.Given as goal
+
+abbrev pub decreases-raw_form : goal.decreases-raw_form
+decreases-raw_form l = 3 * weight (view_type l.typ.now)
+
+abbrev pub decreases-raw_type : goal.decreases-raw_type
+decreases-raw_type l = 3 * weight (view_type l.typ.now) + 1
+
+abbrev pub decreases-raw_list : goal.decreases-raw_list
+decreases-raw_list l = 3 * weight_of_types (view_types l.types.now) + 2
+
+abbrev pub decreases-raw_table : goal.decreases-raw_table
+decreases-raw_table l = 3 * weight_of_props (view_props l.props.now) + 2
 
 -- the types so far, as one
 abbrev pub invariant-raw_list-loop-typ : goal.invariant-raw_list-loop-typ
