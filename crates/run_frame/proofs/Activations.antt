@@ -14,11 +14,11 @@ use Rattle.luau_run.specs.Layer.{Frame}
 use Rattle.luau_run.specs.Expressions.{cell_of}
 use Rattle.luau_run.specs.Calls.{frame_of}
 use Rattle.report_rules.specs.TypeMap.{TypeMap}
-use Rattle.run_frame.specs.Analysis.{Analysis}
+use Rattle.run_frame.specs.Analysis.{Analysis, is_loose}
 use Rattle.run_frame.proofs.World.{Owner, World, with_module, front_refl, front_trans, stays_at, all_append, all_map, last_get}
 use Rattle.run_frame.proofs.Counts.{is_reported, reached, one_if, reached_own, reached_other, reached_leave, stays_reach, stays_leave}
 use Rattle.run_frame.proofs.Kept.{Doer, nobody, IsNew, Kept, kept_trans}
-use Rattle.run_frame.proofs.Fine.{IsBoundWell, bound_kept, Fine, fine_moved}
+use Rattle.run_frame.proofs.Fine.{HasValue, IsBoundWell, bound_kept, Fine, fine_moved}
 use Rattle.run_frame.proofs.Held.{Runs, Held, has_begun}
 use Rattle.run_frame.proofs.Parts.{Ends}
 
@@ -168,9 +168,10 @@ no_cell an w s x f = no_binding an w s.store.begun x s.store.bindings f.ran f.bo
 
 -- so every live map matches
 pub held_begun : (an : Analysis) (w : World) (s : State) (frame : Frame) (map : TypeMap) → Fine an w s → frame.activation ≡ s.store.begun → map.dead ≡ false
-    → Held an frame map (one_begun s)
-held_begun an w s frame map f e live = record {
+    → ((x : ℕ) → is_loose an frame.module_at x ≡ false → HasValue (map.entry x)) → Held an frame map (one_begun s)
+held_begun an w s frame map f e live full = record {
   live = live;
+  full = full;
   entries = λ x c v l q. absurd (no (cell_of s.store.bindings frame.activation x) c (ap (λ (n : ℕ). cell_of s.store.bindings n x) e ∙ no_cell an w s x f) q.0);
 }
   where

@@ -19,9 +19,11 @@ use Rattle.report_rules.specs.Guard.{guard, guarded}
 use Rattle.report_rules.specs.TypeMap.{TypeMap, refined_by, refine}
 use Rattle.report_rules.specs.Context.{Context, unless, branch}
 use Rattle.run_frame.specs.Analysis.{Analysis, is_loose}
+use Rattle.run_frame.proofs.Fine.{HasValue}
 use Rattle.run_frame.proofs.Held.{Reads, Held, Violated}
 use Rattle.run_frame.proofs.Layers.{rules_of, Shows}
 use Rattle.run_frame.proofs.Passing.{one_of, both_of}
+use Rattle.run_frame.proofs.Guards.{guarded_firm}
 
 -- a condition that came out so shows what its guard says, of each local
 abbrev pub ShowsAll : Analysis → Frame → Expr → Bool → State → Type 0
@@ -133,15 +135,19 @@ none_so p (x ∷ xs) h = neither (p x) (list_any p xs) (h x (head (x == x) (is_a
     neither true b e k = e
     neither false b e k = k
 
--- the locals that a condition may say something of aren't loose, and their entries aren't empty
-abbrev pub AreFull : Analysis → Frame → TypeMap → Expr → Type 0
-AreFull an frame map cond = (x : ℕ) → is_among x (guarded (rules_of an frame) cond) ≡ true → (is_loose an frame.module_at x ≡ false) × (is_empty (map.entry x) ≡ false)
+-- an entry that has a value isn't empty
+value_full : (type : Term) → HasValue type → is_empty type ≡ false
+value_full type q = not_empty q.0 q.1 type q.2
 
-pub held_refined : (an : Analysis) (frame : Frame) (map : TypeMap) (cond : Expr) (truth : Bool) (t : State) → AreFull an frame map cond → ShowsAll an frame cond truth t
+-- the map where a condition came out so. It is live: of a local of the condition that its guard says nothing of, the entry is as
+-- it was, and has a value; and of one that its guard says something of, the value that it holds is in the new entry
+pub held_refined : (an : Analysis) (frame : Frame) (map : TypeMap) (cond : Expr) (truth : Bool) (t : State) → ShowsAll an frame cond truth t
     → Held an frame map t → Held an frame (refine (rules_of an frame) cond truth map) t
-held_refined an frame map cond truth t full shows h = record {
+held_refined an frame map cond truth t shows h = record {
   live = alive map.dead (list_any (λ local. is_empty (refined_by (guard (rules_of an frame) cond truth local) (map.entry local))) (guarded (rules_of an frame) cond)) h.live
-      (none_so (λ local. is_empty (refined_by (guard (rules_of an frame) cond truth local) (map.entry local))) (guarded (rules_of an frame) cond) (λ x e. by_side x (full x e) (shows x)));
+      (none_so (λ local. is_empty (refined_by (guard (rules_of an frame) cond truth local) (map.entry local))) (guarded (rules_of an frame) cond)
+      (λ x e. value_full (refined_by (guard (rules_of an frame) cond truth x) (map.entry x)) (by_side x (guarded_firm (rules_of an frame) cond x e) (shows x))));
+  full = λ x firm. by_side x firm (shows x);
   entries = λ x c v firm q. refined_in t.store.heap v (guard (rules_of an frame) cond truth x) (map.entry x) (shown an frame cond truth t x c v shows q) (h.entries x c v firm q);
 }
   where
@@ -149,9 +155,7 @@ held_refined an frame map cond truth t full shows h = record {
     alive true b e k = e
     alive false b e k = k
 
-    by_side : (x : ℕ) → (is_loose an frame.module_at x ≡ false) × (is_empty (map.entry x) ≡ false)
-        → (guard (rules_of an frame) cond truth x ≡ unknown) ⊎ Shows frame t x (guard (rules_of an frame) cond truth x)
-        → is_empty (refined_by (guard (rules_of an frame) cond truth x) (map.entry x)) ≡ false
-    by_side x p (inl e) = subst (λ (says : Term). is_empty (refined_by says (map.entry x)) ≡ false) (sym e) p.1
-    by_side x p (inr e) = not_empty t.store.heap e.1 (refined_by (guard (rules_of an frame) cond truth x) (map.entry x))
-        (refined_in t.store.heap e.1 (guard (rules_of an frame) cond truth x) (map.entry x) e.3 (h.entries x e.0 e.1 p.0 e.2))
+    by_side : (x : ℕ) → is_loose an frame.module_at x ≡ false → (guard (rules_of an frame) cond truth x ≡ unknown) ⊎ Shows frame t x (guard (rules_of an frame) cond truth x)
+        → HasValue (refined_by (guard (rules_of an frame) cond truth x) (map.entry x))
+    by_side x firm (inl e) = subst (λ (says : Term). HasValue (refined_by says (map.entry x))) (sym e) (h.full x firm)
+    by_side x firm (inr e) = (t.store.heap, e.1, refined_in t.store.heap e.1 (guard (rules_of an frame) cond truth x) (map.entry x) e.3 (h.entries x e.0 e.1 firm e.2))

@@ -131,6 +131,7 @@ is_closure_in an w s frame map code cells f r h b k = record {
   module_is = r.reading;
   value_is = refl;
   live = h.live;
+  full = h.full;
   inside = b.inside;
   statements = b.statements;
   placed = b.placed;

@@ -22,7 +22,7 @@ use Rattle.run_frame.specs.Analysis.{Analysis, is_loose}
 use Rattle.run_frame.specs.Fit.{FixedBy}
 use Rattle.run_frame.proofs.World.{World, with_owner, last_get, same_within}
 use Rattle.run_frame.proofs.Kept.{Doer}
-use Rattle.run_frame.proofs.Fine.{Fine}
+use Rattle.run_frame.proofs.Fine.{HasValue, Fine}
 use Rattle.run_frame.proofs.Held.{Runs, runs_kept, Held, HasOwner, bound_well}
 use Rattle.run_frame.proofs.Parts.{Ends, ends_after, ends_give}
 use Rattle.run_frame.proofs.Cells.{declared, owner_in, kept_declared, fine_declared}
@@ -41,6 +41,7 @@ pub held_set : (an : Analysis) (w : World) (s : State) (frame : Frame) (map : Ty
     → holds s.store.heap value type ≡ true → Held an frame (set (rules_of an frame) x type map) (declared frame.activation x value s)
 held_set an w s frame map x value type f h here = record {
   live = alive map.dead (loose (rules_of an frame) x) (is_empty type) h.live (is_full (is_empty type) refl);
+  full = λ y firm. by_name (y == x) y (h.full y firm);
   entries = λ y c u firm q. by_cell y c u firm q.0 q.1;
 }
   where
@@ -50,6 +51,10 @@ held_set an w s frame map x value type f h here = record {
     is_full : (b : Bool) → is_empty type ≡ b → is_empty type ≡ false
     is_full true e = absurd (clash (holds s.store.heap value type) here (empty_holds s.store.heap value type e))
     is_full false e = e
+
+    by_name : (b : Bool) (y : ℕ) → HasValue (map.entry y) → HasValue (if b then cut_up type else map.entry y)
+    by_name true y q = (s.store.heap, value, cut_up_above s.store.heap value type here)
+    by_name false y q = q
 
     alive : (dead l empty : Bool) → dead ≡ false → empty ≡ false → dead || (not l && empty) ≡ false
     alive true l empty d e = d

@@ -13,6 +13,7 @@ use Rattle.luau_run.specs.SyntaxNode.{of_block, of_body}
 use Rattle.luau_run.specs.Machine.{Binding, Closure, Store, State}
 use Rattle.luau_run.specs.Expressions.{number_of}
 use Rattle.luau_run.specs.Certain.{StaysAt}
+use Rattle.type_arena.specs.Term.{Term}
 use Rattle.type_normal.specs.Holds.{holds}
 use Rattle.type_normal.specs.HeapFree.{heap_free, widen}
 use Rattle.type_normal.proofs.Public.{free_later, widen_free}
@@ -25,6 +26,10 @@ use Rattle.run_frame.specs.Analysis.{Analysis, is_caught, is_loose}
 use Rattle.run_frame.proofs.World.{Owner, World, Front, stays_at, all_map}
 use Rattle.run_frame.proofs.Counts.{reached}
 use Rattle.run_frame.proofs.Kept.{Doer, Kept}
+
+-- a type has a value, in some heap
+abbrev pub HasValue : Term → Type 0
+HasValue type = (h : Heap) × (v : Value) × (holds h v type ≡ true)
 
 -- what is in the one list is in the other
 abbrev pub Sub : {A : Type 0} → List A → List A → Type 0
@@ -43,7 +48,8 @@ IsCaptured an w store module_at known c = (o : Owner) × (slice_get w.owners c.1
     × (is_caught an module_at c.0 ≡ true)
     × (is_loose an module_at c.0 ≡ false → (v : Value) → slice_get store.cells c.1 ≡ Some v → holds store.heap v (widen (known.entry c.0)) ≡ true)
 
--- a closure that was made is one of a body of its module, whose literal was evaluated in a live map; what stands, is seen and is
+-- a closure that was made is one of a body of its module, whose literal was evaluated in a live map, of which each entry of a
+-- local that isn't loose has a value; what stands, is seen and is
 -- found in the body stands, is seen and is found in the module
 pub record IsClosure (an : Analysis) (w : World) (store : Store) (c : Closure) : Type 0 where
   pub reading : ReadModule
@@ -52,6 +58,7 @@ pub record IsClosure (an : Analysis) (w : World) (store : Store) (c : Closure) :
   pub module_is : slice_get an.program.modules c.module_at ≡ Some reading
   pub value_is : c.value ≡ Lit reading.home (number_of c.code) cells
   pub live : known.dead ≡ false
+  pub full : (x : ℕ) → is_loose an c.module_at x ≡ false → HasValue (known.entry x)
   pub inside : Sub (of_body c.code) (of_block reading.block)
   pub statements : Sub (stats_of_body c.code) (stats_of_block reading.block)
   pub placed : Sub (seen_body (an.rules c.module_at) known c.code) (seen_module (an.rules c.module_at))
@@ -109,6 +116,7 @@ closure_kept an who w v s t c k h = record {
   module_is = h.module_is;
   value_is = h.value_is;
   live = h.live;
+  full = h.full;
   inside = h.inside;
   statements = h.statements;
   placed = h.placed;

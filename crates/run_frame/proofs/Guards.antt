@@ -1,16 +1,17 @@
--- Guards speak of kinds alone: their rows are none, or that of all tables.
-use Rattle.std.proofs.Common.{◌≡◌, ℕ, Bool, true, false, not, ◌==◌, if◌then◌else◌, List, Option, Some, None, refl, codes}
+-- Guards speak of kinds alone: their rows are none, or that of all tables; and of locals that aren't loose.
+use Rattle.std.proofs.Common.{◌≡◌, ℕ, Bool, true, false, not, ◌==◌, ◌||◌, if◌then◌else◌, List, [], ◌∷◌, ◌++◌, Option, Some, None, ◌⊎◌, inl, inr, refl, sym, subst, codes}
+use Rattle.std.proofs.lemmas.Bool.{eqb-true}
 use Rattle.std.specs.Str.{bytes_eq}
 use Rattle.luau_tree.specs.declared.names.BinOp.{BinOp}
 use Rattle.luau_tree.specs.declared.names.BinOp.TheVariants.{Or, And, NotEqual, Equal}
 use Rattle.luau_tree.specs.declared.names.UnOp.TheVariants.{Not}
-use Rattle.luau_tree.specs.Tree.{Expr, the_expr, ExprKind, NilExpr, TrueExpr, FalseExpr, NumberExpr, StrExpr, NameExpr, Paren, Unary, Binary}
-use Rattle.luau_run.specs.ReadFolder.{local_of}
+use Rattle.luau_tree.specs.Tree.{Expr, the_expr, no_exprs, more_exprs, ExprKind, Call, NilExpr, TrueExpr, FalseExpr, NumberExpr, StrExpr, NameExpr, Paren, Unary, Binary}
+use Rattle.luau_run.specs.ReadFolder.{local_of, is_among}
 use Rattle.type_arena.specs.Term.{Term, term, no_rows, more_rows}
 use Rattle.type_normal.specs.Operations.{union, meet, not_free, is_flat}
 use Rattle.type_normal.specs.Kinds.{nil_type, true_type, false_type, boolean_type, number_type, string_type, function_type, other_type, table_type, text_type, falsy, truthy}
-use Rattle.report_rules.specs.Rules.{Rules}
-use Rattle.report_rules.specs.Guard.{Says, exactly, equals, kind_equals, firm_only, firm_local, kind_subject, kind_says, local_says, or_else, side_says, equality, said, name_says, joined_guard, guard, guard_of_kind}
+use Rattle.report_rules.specs.Rules.{Rules, loose, local_named}
+use Rattle.report_rules.specs.Guard.{Says, exactly, equals, kind_equals, firm_only, firm_local, kind_subject, kind_says, local_says, or_else, side_says, equality, said, name_says, joined_guard, guard, guard_of_kind, is_type, said_of, named_local, joined_locals, guarded, guarded_in}
 
 flat_not : (t : Term) → is_flat (not_free t) ≡ true
 flat_not (term f no_rows) = refl
@@ -106,3 +107,127 @@ module _ (flat_union : (t u : Term) → is_flat t ≡ true → is_flat u ≡ tru
         (guards_flat rules left truth x) (guards_flat rules right truth x)
         (flat_said truth x (equality rules left right) (flat_equality rules left right)) (flat_said (not truth) x (equality rules left right) (flat_equality rules left right))
     flat_guard rules id _ truth x = refl
+
+-- ---- guards speak of locals that aren't loose
+
+clash : (b : Bool) → b ≡ true → b ≡ false → ⊥
+clash b p q = cc
+
+-- a local in a list of at most one
+among_one : (x y : ℕ) → is_among x (y ∷ []) ≡ true → y ≡ x
+among_one x y e = by_test (x == y) refl e
+  where
+    by_test : (b : Bool) → (x == y) ≡ b → b || false ≡ true → y ≡ x
+    by_test true k q = sym (eqb-true x y k)
+    by_test false k q = cc
+
+among_two : (x : ℕ) (xs ys : List ℕ) → is_among x (xs ++ ys) ≡ true → (is_among x xs ≡ true) ⊎ (is_among x ys ≡ true)
+among_two x [] ys e = inr e
+among_two x (y ∷ xs) ys e = by_test (x == y) e (among_two x xs ys)
+  where
+    by_test : (b : Bool) → b || is_among x (xs ++ ys) ≡ true → (is_among x (xs ++ ys) ≡ true → (is_among x xs ≡ true) ⊎ (is_among x ys ≡ true))
+        → (b || is_among x xs ≡ true) ⊎ (is_among x ys ≡ true)
+    by_test true k next = inl refl
+    by_test false k next = next k
+
+-- a local, where there is one, isn't loose
+abbrev IsFirm : Rules → Option ℕ → Type 0
+IsFirm rules None = Unit {0}
+IsFirm rules (Some x) = loose rules x ≡ false
+
+firm_only_firm : (rules : Rules) (o : Option ℕ) → IsFirm rules (firm_only rules o)
+firm_only_firm rules None = tt
+firm_only_firm rules (Some x) = by_loose (loose rules x) refl
+  where
+    by_loose : (b : Bool) → loose rules x ≡ b → IsFirm rules (if b then None else Some x)
+    by_loose true e = tt
+    by_loose false e = e
+
+abbrev SaysFirm : Rules → Option Says → Type 0
+SaysFirm rules None = Unit {0}
+SaysFirm rules (Some says) = loose rules says.local ≡ false
+
+firm_or_else : (rules : Rules) (p q : Option Says) → SaysFirm rules p → SaysFirm rules q → SaysFirm rules (or_else p q)
+firm_or_else rules (Some says) q h k = h
+firm_or_else rules None q h k = k
+
+firm_equals : (rules : Rules) (x : ℕ) (kind : ExprKind) → loose rules x ≡ false → SaysFirm rules (equals x kind)
+firm_equals rules x NilExpr h = h
+firm_equals rules x TrueExpr h = h
+firm_equals rules x FalseExpr h = h
+firm_equals rules x (StrExpr bytes) h = h
+firm_equals rules x (NumberExpr text) h = h
+firm_equals rules x _ h = tt
+
+firm_local_says : (rules : Rules) (o : Option ℕ) (kind : ExprKind) → IsFirm rules o → SaysFirm rules (local_says o kind)
+firm_local_says rules (Some x) kind h = firm_equals rules x kind h
+firm_local_says rules None kind h = tt
+
+says_if : (b : Bool) (p q : Says) (x : ℕ) → p.local ≡ x → q.local ≡ x → (if b then p else q).local ≡ x
+says_if true p q x h k = h
+says_if false p q x h k = k
+
+kind_local : (x : ℕ) (name : List ℕ) → (kind_equals x name).local ≡ x
+kind_local x name =
+    says_if (bytes_eq name (codes "nil")) _ _ x refl
+    (says_if (bytes_eq name (codes "boolean")) _ _ x refl
+    (says_if (bytes_eq name (codes "number")) _ _ x refl
+    (says_if (bytes_eq name (codes "string")) _ _ x refl
+    (says_if (bytes_eq name (codes "function")) _ _ x refl
+    (says_if (bytes_eq name (codes "table")) _ _ x refl refl)))))
+
+firm_kind_says : (rules : Rules) (o : Option ℕ) (kind : ExprKind) → IsFirm rules o → SaysFirm rules (kind_says o kind)
+firm_kind_says rules (Some x) (StrExpr name) h = subst (λ (y : ℕ). loose rules y ≡ false) (sym (kind_local x name)) h
+firm_kind_says rules _ _ h = tt
+
+firm_subject : (rules : Rules) (e : Expr) → IsFirm rules (kind_subject rules e)
+firm_subject rules (the_expr id span (Call callee (more_exprs e no_exprs))) = by_type (is_type rules callee)
+  where
+    by_type : (b : Bool) → IsFirm rules (if b then firm_local rules e else None)
+    by_type true = firm_only_firm rules (local_named rules e)
+    by_type false = tt
+firm_subject rules _ = tt
+
+firm_side : (rules : Rules) (subject other : Expr) → SaysFirm rules (side_says rules subject other)
+firm_side rules subject (the_expr id span kind) =
+    firm_or_else rules (local_says (firm_local rules subject) kind) (kind_says (kind_subject rules subject) kind)
+    (firm_local_says rules (firm_local rules subject) kind (firm_only_firm rules (local_named rules subject)))
+    (firm_kind_says rules (kind_subject rules subject) kind (firm_subject rules subject))
+
+firm_equality : (rules : Rules) (left right : Expr) → SaysFirm rules (equality rules left right)
+firm_equality rules left right = firm_or_else rules (side_says rules left right) (side_says rules right left) (firm_side rules left right) (firm_side rules right left)
+
+among_said : (rules : Rules) (o : Option Says) (x : ℕ) → SaysFirm rules o → is_among x (said_of o) ≡ true → loose rules x ≡ false
+among_said rules None x h e = cc
+among_said rules (Some says) x h e = subst (λ (y : ℕ). loose rules y ≡ false) (among_one x says.local e) h
+
+among_named : (rules : Rules) (o : Option ℕ) (x : ℕ) → IsFirm rules o → is_among x (named_local o) ≡ true → loose rules x ≡ false
+among_named rules None x h e = cc
+among_named rules (Some y) x h e = subst (λ (z : ℕ). loose rules z ≡ false) (among_one x y e) h
+
+among_joined : (rules : Rules) (op : BinOp) (parts equal : List ℕ) (x : ℕ) → (is_among x parts ≡ true → loose rules x ≡ false) → (is_among x equal ≡ true → loose rules x ≡ false)
+    → is_among x (joined_locals op parts equal) ≡ true → loose rules x ≡ false
+among_joined rules And parts equal x h k e = h e
+among_joined rules Or parts equal x h k e = h e
+among_joined rules Equal parts equal x h k e = k e
+among_joined rules NotEqual parts equal x h k e = k e
+among_joined rules _ parts equal x h k e = cc
+
+among_parts : (rules : Rules) (xs ys : List ℕ) (x : ℕ) → (is_among x xs ≡ true → loose rules x ≡ false) → (is_among x ys ≡ true → loose rules x ≡ false)
+    → (is_among x xs ≡ true) ⊎ (is_among x ys ≡ true) → loose rules x ≡ false
+among_parts rules xs ys x h k (inl e) = h e
+among_parts rules xs ys x h k (inr e) = k e
+
+mutual
+  pub guarded_firm : (rules : Rules) (e : Expr) (x : ℕ) → is_among x (guarded rules e) ≡ true → loose rules x ≡ false
+  guarded_firm rules (the_expr id span kind) x e = firm_in rules id kind x e
+
+  firm_in : (rules : Rules) (id : ℕ) (kind : ExprKind) (x : ℕ) → is_among x (guarded_in rules id kind) ≡ true → loose rules x ≡ false
+  firm_in rules id (NameExpr name) x e = among_named rules (firm_only rules (local_of (rules.reading.use_of id))) x (firm_only_firm rules (local_of (rules.reading.use_of id))) e
+  firm_in rules id (Paren e) x h = guarded_firm rules e x h
+  firm_in rules id (Unary Not e) x h = guarded_firm rules e x h
+  firm_in rules id (Binary op left right) x h = among_joined rules op (guarded rules left ++ guarded rules right) (said_of (equality rules left right)) x
+      (λ k. among_parts rules (guarded rules left) (guarded rules right) x (guarded_firm rules left x) (guarded_firm rules right x)
+      (among_two x (guarded rules left) (guarded rules right) k))
+      (λ k. among_said rules (equality rules left right) x (firm_equality rules left right) k) h
+  firm_in rules id _ x h = cc

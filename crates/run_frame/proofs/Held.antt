@@ -21,7 +21,7 @@ use Rattle.report_rules.specs.Context.{Context}
 use Rattle.run_frame.specs.Analysis.{Analysis, is_caught, is_loose}
 use Rattle.run_frame.proofs.World.{Owner, World, stays_at, all_map}
 use Rattle.run_frame.proofs.Kept.{Doer, Kept, same_cell}
-use Rattle.run_frame.proofs.Fine.{IsBoundWell, Fine}
+use Rattle.run_frame.proofs.Fine.{HasValue, IsBoundWell, Fine}
 
 -- the frame is that of an activation that has begun, in its module; and the arguments past its parameters stand
 pub record Runs (an : Analysis) (w : World) (s : State) (frame : Frame) : Type 0 where
@@ -43,9 +43,11 @@ has_begun an w s frame f r = subst (λ (n : ℕ). frame.activation < n) f.ran (s
 abbrev pub Reads : Frame → State → (local cell : ℕ) → Value → Type 0
 Reads frame s x c v = (cell_of s.store.bindings frame.activation x ≡ Some c) × (slice_get s.store.cells c ≡ Some v)
 
--- the map matches: it is live, and what each local holds that isn't loose is in its entry
+-- the map matches: it is live, and what each local holds that isn't loose is in its entry; and that entry has a value, in some
+-- heap, though the local may have no cell here
 pub record Held (an : Analysis) (frame : Frame) (map : TypeMap) (s : State) : Type 0 where
   pub live : map.dead ≡ false
+  pub full : (x : ℕ) → is_loose an frame.module_at x ≡ false → HasValue (map.entry x)
   pub entries : (x c : ℕ) (v : Value) → is_loose an frame.module_at x ≡ false → Reads frame s x c v → holds s.store.heap v (map.entry x) ≡ true
 
 -- a context is violated: some local that isn't loose holds a value in its set
@@ -125,6 +127,7 @@ module _ (an : Analysis) (who : Doer) (w v : World) (s t : State) (frame : Frame
   pub held_kept : (map : TypeMap) → ((x : ℕ) → (map.entry x ≡ unknown) ⊎ Lasts who x (map.entry x)) → Held an frame map s → Held an frame map t
   held_kept map lasts h = record {
     live = h.live;
+    full = h.full;
     entries = λ x c u l q. by_entry x c u l q (lasts x);
   }
     where
@@ -153,6 +156,7 @@ module _ (an : Analysis) (who : Doer) (w v : World) (s t : State) (frame : Frame
 pub held_store : (an : Analysis) (s t : State) (frame : Frame) (map : TypeMap) → t.store ≡ s.store → Held an frame map s → Held an frame map t
 held_store an s t frame map e h = record {
   live = h.live;
+  full = h.full;
   entries = subst (λ (y : Store). (x c : ℕ) (v : Value) → is_loose an frame.module_at x ≡ false
       → (cell_of y.bindings frame.activation x ≡ Some c) × (slice_get y.cells c ≡ Some v) → holds y.heap v (map.entry x) ≡ true) (sym e) h.entries;
 }

@@ -25,3 +25,5 @@ pub mod LocalForms
 pub mod Branches
 pub mod Guards
 pub mod Leaving
+pub mod Forms
+pub mod ListsBack

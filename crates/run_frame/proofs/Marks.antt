@@ -204,7 +204,7 @@ typed_at an w s frame map (the_expr id span kind) fit r placed =
 -- ---- an operand that is checked
 
 -- what a check reports has its type below the set
-checked_below : (seen : List Seen) (e : Expr) (set : Term) (kind : ReportKind) → check seen e set kind ≢ [] → below (type_of seen e) set ≡ true
+pub checked_below : (seen : List Seen) (e : Expr) (set : Term) (kind : ReportKind) → check seen e set kind ≢ [] → below (type_of seen e) set ≡ true
 checked_below seen e set kind h = by_parts (is_live seen (place_of e)) (is_empty (type_of seen e)) (below (type_of seen e) set) refl h
   where
     by_parts : (a b c : Bool) → below (type_of seen e) set ≡ c → (if a && (not b && c) then kind ∷ [] else []) ≢ [] → below (type_of seen e) set ≡ true

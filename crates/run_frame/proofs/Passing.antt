@@ -13,7 +13,7 @@ use Rattle.report_rules.specs.Context.{Context, none, join, meet_of, stripped, p
 use Rattle.run_frame.specs.Analysis.{Analysis}
 use Rattle.run_frame.proofs.World.{World}
 use Rattle.run_frame.proofs.Kept.{Kept}
-use Rattle.run_frame.proofs.Fine.{Fine}
+use Rattle.run_frame.proofs.Fine.{HasValue, Fine}
 use Rattle.run_frame.proofs.Held.{Runs, Held, Violated, held_kept, violated_kept}
 use Rattle.run_frame.proofs.Layers.{part_of}
 
@@ -23,6 +23,7 @@ use Rattle.run_frame.proofs.Layers.{part_of}
 widened_holds : (an : Analysis) (frame : Frame) (map : TypeMap) (s : State) → Held an frame map s → Held an frame (widened map) s
 widened_holds an frame map s h = record {
   live = h.live;
+  full = λ x firm. let q : HasValue (map.entry x) = h.full x firm in (q.0, q.1, widen_above q.0 q.1 (map.entry x) q.2);
   entries = λ x c v firm q. widen_above s.store.heap v (map.entry x) (h.entries x c v firm q);
 }
 
