@@ -2,6 +2,8 @@
 -- the expression. And expressions and values that gave.
 use Rattle.std.proofs.Common.{◌≡◌, ℕ, ◌+◌, true, List, [], ◌∷◌, Option, Some, None, ◌⊎◌, refl, sym, ◌∙◌, ap, subst}
 use Rattle.luau_values.specs.Value.{Value}
+use Rattle.std.specs.List.{AllByRecursion}
+use Rattle.luau_values.specs.Heap.{Heap}
 use Rattle.luau_values.specs.Stands.{Stands}
 use Rattle.luau_tree.specs.Tree.{Expr, the_expr, ExprKind}
 use Rattle.luau_tree.specs.declared.names.Place.TheVariants.{Expr as ExprPlace}
@@ -32,10 +34,11 @@ use Rattle.run_frame.proofs.Counts.{is_reported, reached, one_if}
 use Rattle.run_frame.proofs.Kept.{Kept}
 use Rattle.run_frame.proofs.Fine.{Fine}
 use Rattle.run_frame.proofs.Held.{Runs, runs_kept, Held, Violated, violated_same}
-use Rattle.run_frame.proofs.Parts.{Ends, ends_gave, gave_then, gave_same}
+use Rattle.run_frame.proofs.Parts.{Ends, ends_so, ends_gave, gave_then, gave_same}
 use Rattle.run_frame.proofs.Layers.{rules_of, seen_of, expr_of, Inside, Placed, Marked, Shows, Gives, Pays, Forward, Backward}
 use Rattle.run_frame.proofs.Readings.{contains_head, reads_same, means, no_use}
 use Rattle.run_frame.proofs.Passing.{held_after}
+use Rattle.run_frame.proofs.Lists.{FirstOf, ends_value}
 use Rattle.run_frame.proofs.Expressions.{Opened, ends_values, values_gave}
 
 -- ---- what gave
@@ -169,3 +172,21 @@ form_backward an l w s frame id span kind vs u fit form f r inside e next =
           reports = p.count ∙ o.opened.1;
           own = p.own;
         }
+
+-- ---- one value of an expression, forward
+
+-- what holds after an expression
+abbrev pub After : Analysis → Frame → TypeMap → Expr → List Value → State → Type 0
+After an frame map e vs t = Gives an frame map e vs t × Held an frame (after (rules_of an frame) map e) t
+
+pub value_forward : (an : Analysis) (l : Layer) → Forward an l → (w : World) (s : State) (frame : Frame) (map : TypeMap) (e : Expr) → Fine an w s → Runs an w s frame
+    → Held an frame map s → Inside frame (of_expr e) (stats_of_expr e) → Placed an frame (seen_expr (rules_of an frame) map e)
+    → Ends an (expr_of an frame e) w s (FirstOf (After an frame map e)) (value l frame e s)
+value_forward an l fwd w s frame map e f r h inside placed = ends_value an (expr_of an frame e) w s l frame e (After an frame map e)
+    (ends_so an (expr_of an frame e) w s (Gives an frame map e) (After an frame map e) (l.values frame e s)
+    (λ vs t v q g k p. (p, held_after an w v s t frame map (effects (rules_of an frame) e) f r k h))
+    (fwd.values w s frame map e f r h inside placed))
+
+pub first_stands : (heap : Heap) (vs : List Value) → AllByRecursion (Stands heap) vs → Stands heap (first vs)
+first_stands heap [] h = tt
+first_stands heap (v ∷ vs) h = h.0

@@ -27,3 +27,5 @@ pub mod Guards
 pub mod Leaving
 pub mod Forms
 pub mod ListsBack
+pub mod WrapForms
+pub mod Operators

@@ -40,7 +40,7 @@ use Rattle.run_frame.proofs.Passing.{violated_followed}
 use Rattle.run_frame.proofs.Marks.{mark_tells, typed_at, checked_below}
 use Rattle.run_frame.proofs.Lists.{ListGives, list_forward, inside_left, inside_right}
 use Rattle.run_frame.proofs.Blocks.{count_split}
-use Rattle.run_frame.proofs.Forms.{value_gave, Evaluated, evaluated}
+use Rattle.run_frame.proofs.Forms.{value_gave, Evaluated, evaluated, first_stands}
 
 -- ---- an operand
 
@@ -149,10 +149,6 @@ found_checks an frame (more_exprs e rest) c = found (rules_of an frame) (seen_of
 abbrev pub SomeIn : (an : Analysis) (frame : Frame) (es : Exprs) → Checks an frame es → Heap → List Value → Type 0
 SomeIn an frame no_exprs c heap vs = ⊥
 SomeIn an frame (more_exprs e rest) c heap vs = (holds heap (first vs) c.0.set ≡ true) ⊎ SomeIn an frame rest c.2 heap (drop 1 vs)
-
-first_stands : (heap : Heap) (vs : List Value) → AllByRecursion (Stands heap) vs → Stands heap (first vs)
-first_stands heap [] h = tt
-first_stands heap (v ∷ vs) h = h.0
 
 -- a value in a set that lasts is in it after the list
 lasts_past : (an : Analysis) (w v : World) (s t : State) (frame : Frame) (rest : Exprs) (x : Value) (set : Term) → Fine an w s → Runs an w s frame
