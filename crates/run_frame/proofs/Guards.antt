@@ -131,7 +131,7 @@ among_two x (y ∷ xs) ys e = by_test (x == y) e (among_two x xs ys)
     by_test false k next = next k
 
 -- a local, where there is one, isn't loose
-abbrev IsFirm : Rules → Option ℕ → Type 0
+abbrev pub IsFirm : Rules → Option ℕ → Type 0
 IsFirm rules None = Unit {0}
 IsFirm rules (Some x) = loose rules x ≡ false
 
@@ -167,7 +167,7 @@ says_if : (b : Bool) (p q : Says) (x : ℕ) → p.local ≡ x → q.local ≡ x 
 says_if true p q x h k = h
 says_if false p q x h k = k
 
-kind_local : (x : ℕ) (name : List ℕ) → (kind_equals x name).local ≡ x
+pub kind_local : (x : ℕ) (name : List ℕ) → (kind_equals x name).local ≡ x
 kind_local x name =
     says_if (bytes_eq name (codes "nil")) _ _ x refl
     (says_if (bytes_eq name (codes "boolean")) _ _ x refl
@@ -180,7 +180,7 @@ firm_kind_says : (rules : Rules) (o : Option ℕ) (kind : ExprKind) → IsFirm r
 firm_kind_says rules (Some x) (StrExpr name) h = subst (λ (y : ℕ). loose rules y ≡ false) (sym (kind_local x name)) h
 firm_kind_says rules _ _ h = tt
 
-firm_subject : (rules : Rules) (e : Expr) → IsFirm rules (kind_subject rules e)
+pub firm_subject : (rules : Rules) (e : Expr) → IsFirm rules (kind_subject rules e)
 firm_subject rules (the_expr id span (Call callee (more_exprs e no_exprs))) = by_type (is_type rules callee)
   where
     by_type : (b : Bool) → IsFirm rules (if b then firm_local rules e else None)

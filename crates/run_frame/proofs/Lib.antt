@@ -29,3 +29,5 @@ pub mod Forms
 pub mod ListsBack
 pub mod WrapForms
 pub mod Operators
+pub mod Equality
+pub mod OperatorForms

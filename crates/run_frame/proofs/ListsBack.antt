@@ -10,6 +10,7 @@ use Rattle.luau_run.specs.SyntaxNode.{of_expr, of_exprs}
 use Rattle.luau_run.specs.Machine.{State, Gave, ◌>>=◌, give}
 use Rattle.luau_run.specs.Layer.{Frame, Layer, first}
 use Rattle.luau_run.specs.Expressions.{value, all_values}
+use Rattle.luau_run.specs.Statements.{place_of}
 use Rattle.type_arena.specs.Term.{Term, never}
 use Rattle.type_normal.specs.Holds.{holds}
 use Rattle.type_normal.specs.HeapFree.{heap_free}
@@ -102,6 +103,25 @@ operand_in an w s frame map (the_expr id span kind) c vs t fit r placed marked g
         both_none : (xs ys : List ReportKind) → xs ≡ [] → ys ≡ [] → xs ++ ys ≡ []
         both_none [] ys p q = q
         both_none (x ∷ xs) ys p q = cc
+
+count_same : (b : Bool) (m n : ℕ) → n ≡ m + one_if b → (m < n → ⊥) → n ≡ m
+count_same true m n e h = absurd (h (omega (arith, e)))
+count_same false m n e h = omega (arith, e)
+
+-- where the value isn't in the set, no reported place was reached, and the context wasn't violated
+pub operand_quiet : (an : Analysis) (w : World) (s : State) (frame : Frame) (map : TypeMap) (e : Expr) (c : Check an frame e) (vs : List Value) (t : State) → Fit an → Runs an w s frame
+    → Placed an frame (seen_expr (rules_of an frame) map e) → Marked an frame (found (rules_of an frame) (seen_of an frame) c.kinds e)
+    → Gives an frame map e vs t → Pays an frame e s vs t → (holds t.store.heap (first vs) c.set ≡ true → ⊥)
+    → reached an frame.activation t.trace ≡ reached an frame.activation s.trace
+operand_quiet an w s frame map e c vs t fit r placed marked gives pays outside =
+    count_same (is_reported an frame.module_at (ExprPlace (record { 0 = place_of e }))) (reached an frame.activation s.trace) (reached an frame.activation t.trace) pays.reports
+    (λ l. outside (operand_in an w s frame map e c vs t fit r placed marked gives pays (inr l)))
+
+pub operand_safe : (an : Analysis) (w : World) (s : State) (frame : Frame) (map : TypeMap) (e : Expr) (c : Check an frame e) (vs : List Value) (t : State) → Fit an → Runs an w s frame
+    → Placed an frame (seen_expr (rules_of an frame) map e) → Marked an frame (found (rules_of an frame) (seen_of an frame) c.kinds e)
+    → Gives an frame map e vs t → Pays an frame e s vs t → (holds t.store.heap (first vs) c.set ≡ true → ⊥)
+    → Violated an frame (ev (rules_of an frame) (seen_of an frame) e c.asked) s → ⊥
+operand_safe an w s frame map e c vs t fit r placed marked gives pays outside h = outside (operand_in an w s frame map e c vs t fit r placed marked gives pays (inl h))
 
 -- an operand and what follows it: its value is in the set, or what follows is in trouble from its end
 pub operand_then : (an : Analysis) (w : World) (s : State) (frame : Frame) (map : TypeMap) (e : Expr) (c : Check an frame e) (behind : Context) (vs : List Value) (m t : State)
