@@ -25,9 +25,9 @@ use Rattle.run_frame.proofs.Layers.{rules_of, Shows}
 use Rattle.run_frame.proofs.Passing.{one_of, both_of}
 use Rattle.run_frame.proofs.Guards.{guarded_firm}
 
--- a condition that came out so shows what its guard says, of each local
+-- a condition that came out so shows what its guard says, of each local that isn't loose
 abbrev pub ShowsAll : Analysis → Frame → Expr → Bool → State → Type 0
-ShowsAll an frame cond truth t = (x : ℕ) → (guard (rules_of an frame) cond truth x ≡ unknown) ⊎ Shows frame t x (guard (rules_of an frame) cond truth x)
+ShowsAll an frame cond truth t = (x : ℕ) → is_loose an frame.module_at x ≡ false → (guard (rules_of an frame) cond truth x ≡ unknown) ⊎ Shows frame t x (guard (rules_of an frame) cond truth x)
 
 -- ---- one cell, one value
 
@@ -42,9 +42,9 @@ reads_once frame t x c d u v p q = same_content u v (slice_get t.store.cells c) 
     (subst (λ (i : ℕ). slice_get t.store.cells i ≡ Some v) (sym (same_option c d (cell_of t.store.bindings frame.activation x) p.0 q.0)) q.1)
 
 -- so what a local reads as is in what the guard says of it
-shown : (an : Analysis) (frame : Frame) (cond : Expr) (truth : Bool) (t : State) (x c : ℕ) (v : Value) → ShowsAll an frame cond truth t → Reads frame t x c v
-    → holds t.store.heap v (guard (rules_of an frame) cond truth x) ≡ true
-shown an frame cond truth t x c v shows q = by_side (shows x)
+shown : (an : Analysis) (frame : Frame) (cond : Expr) (truth : Bool) (t : State) (x c : ℕ) (v : Value) → ShowsAll an frame cond truth t → is_loose an frame.module_at x ≡ false
+    → Reads frame t x c v → holds t.store.heap v (guard (rules_of an frame) cond truth x) ≡ true
+shown an frame cond truth t x c v shows firm q = by_side (shows x firm)
   where
     by_side : (guard (rules_of an frame) cond truth x ≡ unknown) ⊎ Shows frame t x (guard (rules_of an frame) cond truth x)
         → holds t.store.heap v (guard (rules_of an frame) cond truth x) ≡ true
@@ -75,7 +75,7 @@ violated_branch an frame cond true when_true when_false t flat shows h = (
   h.2,
   h.3,
   h.4,
-  unless_in t.store.heap h.2 (guard (rules_of an frame) cond true h.0) (when_true h.0) (flat true h.0) (shown an frame cond true t h.0 h.1 h.2 shows h.4)
+  unless_in t.store.heap h.2 (guard (rules_of an frame) cond true h.0) (when_true h.0) (flat true h.0) (shown an frame cond true t h.0 h.1 h.2 shows h.3 h.4)
       (both_of (holds t.store.heap h.2 (unless (guard (rules_of an frame) cond true h.0) (when_true h.0))) (holds t.store.heap h.2 (unless (guard (rules_of an frame) cond false h.0) (when_false h.0)))
       (sym (meet_holds t.store.heap h.2 (unless (guard (rules_of an frame) cond true h.0) (when_true h.0)) (unless (guard (rules_of an frame) cond false h.0) (when_false h.0)))
       ∙ cut_down_below t.store.heap h.2 (meet (unless (guard (rules_of an frame) cond true h.0) (when_true h.0)) (unless (guard (rules_of an frame) cond false h.0) (when_false h.0))) h.5)).0,
@@ -86,7 +86,7 @@ violated_branch an frame cond false when_true when_false t flat shows h = (
   h.2,
   h.3,
   h.4,
-  unless_in t.store.heap h.2 (guard (rules_of an frame) cond false h.0) (when_false h.0) (flat false h.0) (shown an frame cond false t h.0 h.1 h.2 shows h.4)
+  unless_in t.store.heap h.2 (guard (rules_of an frame) cond false h.0) (when_false h.0) (flat false h.0) (shown an frame cond false t h.0 h.1 h.2 shows h.3 h.4)
       (both_of (holds t.store.heap h.2 (unless (guard (rules_of an frame) cond true h.0) (when_true h.0))) (holds t.store.heap h.2 (unless (guard (rules_of an frame) cond false h.0) (when_false h.0)))
       (sym (meet_holds t.store.heap h.2 (unless (guard (rules_of an frame) cond true h.0) (when_true h.0)) (unless (guard (rules_of an frame) cond false h.0) (when_false h.0)))
       ∙ cut_down_below t.store.heap h.2 (meet (unless (guard (rules_of an frame) cond true h.0) (when_true h.0)) (unless (guard (rules_of an frame) cond false h.0) (when_false h.0))) h.5)).1,
@@ -146,9 +146,9 @@ pub held_refined : (an : Analysis) (frame : Frame) (map : TypeMap) (cond : Expr)
 held_refined an frame map cond truth t shows h = record {
   live = alive map.dead (list_any (λ local. is_empty (refined_by (guard (rules_of an frame) cond truth local) (map.entry local))) (guarded (rules_of an frame) cond)) h.live
       (none_so (λ local. is_empty (refined_by (guard (rules_of an frame) cond truth local) (map.entry local))) (guarded (rules_of an frame) cond)
-      (λ x e. value_full (refined_by (guard (rules_of an frame) cond truth x) (map.entry x)) (by_side x (guarded_firm (rules_of an frame) cond x e) (shows x))));
-  full = λ x firm. by_side x firm (shows x);
-  entries = λ x c v firm q. refined_in t.store.heap v (guard (rules_of an frame) cond truth x) (map.entry x) (shown an frame cond truth t x c v shows q) (h.entries x c v firm q);
+      (λ x e. value_full (refined_by (guard (rules_of an frame) cond truth x) (map.entry x)) (by_side x (guarded_firm (rules_of an frame) cond x e) (shows x (guarded_firm (rules_of an frame) cond x e)))));
+  full = λ x firm. by_side x firm (shows x firm);
+  entries = λ x c v firm q. refined_in t.store.heap v (guard (rules_of an frame) cond truth x) (map.entry x) (shown an frame cond truth t x c v shows firm q) (h.entries x c v firm q);
 }
   where
     alive : (a b : Bool) → a ≡ false → b ≡ false → a || b ≡ false

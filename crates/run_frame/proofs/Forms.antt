@@ -1,6 +1,6 @@
 -- Forms of expressions that stand for nothing by themselves: what holds of the form, from where its place was reached, holds of
 -- the expression. And expressions and values that gave.
-use Rattle.std.proofs.Common.{◌≡◌, ℕ, ◌+◌, true, List, [], ◌∷◌, Option, Some, None, ◌⊎◌, refl, sym, ◌∙◌, ap, subst}
+use Rattle.std.proofs.Common.{◌≡◌, ℕ, ◌+◌, true, false, List, [], ◌∷◌, Option, Some, None, ◌⊎◌, refl, sym, ◌∙◌, ap, subst}
 use Rattle.luau_values.specs.Value.{Value}
 use Rattle.std.specs.List.{AllByRecursion}
 use Rattle.luau_values.specs.Heap.{Heap}
@@ -26,7 +26,7 @@ use Rattle.report_rules.specs.Seen.{seen_expr}
 use Rattle.report_rules.specs.Checks.{ReportKind}
 use Rattle.report_rules.specs.Errors.{ev_in, unless_builtin}
 use Rattle.report_rules.specs.Findings.{own_kinds, found}
-use Rattle.run_frame.specs.Analysis.{Analysis}
+use Rattle.run_frame.specs.Analysis.{Analysis, is_loose}
 use Rattle.run_frame.specs.Statements.{stats_of_expr}
 use Rattle.run_frame.specs.Fit.{Fit}
 use Rattle.run_frame.proofs.World.{World}
@@ -125,7 +125,7 @@ form_forward an l w s frame id span kind P fit form f r inside next =
 pub record OneGives (an : Analysis) (frame : Frame) (map : TypeMap) (id : ℕ) (kind : ExprKind) (v : Value) (t : State) : Type 0 where
   pub stands : Stands t.store.heap v
   pub typed : holds t.store.heap v (type_of_kind (rules_of an frame) map id kind) ≡ true
-  pub guard_shows : (x : ℕ) → (guard_of_kind (rules_of an frame) id kind (is_true v) x ≡ unknown) ⊎ Shows frame t x (guard_of_kind (rules_of an frame) id kind (is_true v) x)
+  pub guard_shows : (x : ℕ) → is_loose an frame.module_at x ≡ false → (guard_of_kind (rules_of an frame) id kind (is_true v) x ≡ unknown) ⊎ Shows frame t x (guard_of_kind (rules_of an frame) id kind (is_true v) x)
 
 -- of one value, which is not a kind's name
 pub one_gives : (an : Analysis) (frame : Frame) (map : TypeMap) (id : ℕ) (span : _) (kind : ExprKind) (vs : List Value) (t : State) → IsForm kind

@@ -208,7 +208,8 @@ abbrev pub Shows : Frame → State → ℕ → Term → Type 0
 Shows frame t x type = (c : ℕ) × (v : Value) × Reads frame t x c v × (holds t.store.heap v type ≡ true)
 
 -- an expression gives values that stand, the first of which has the expression's type; and one value unless it expands. Where it
--- is always a builtin it gives that; a bare name gives what its local holds; a condition shows what the rules say of locals by it;
+-- is always a builtin it gives that; a bare name gives what its local holds; a condition shows what the rules say by it of locals that
+-- aren't loose;
 -- and `type(x)` gives the name of the kind of what x holds
 pub record Gives (an : Analysis) (frame : Frame) (map : TypeMap) (e : Expr) (vs : List Value) (t : State) : Type 0 where
   pub stand : AllByRecursion (Stands t.store.heap) vs
@@ -216,7 +217,7 @@ pub record Gives (an : Analysis) (frame : Frame) (map : TypeMap) (e : Expr) (vs 
   pub one : expands e ≡ false → (v : Value) × (vs ≡ v ∷ [])
   pub fixed : (path : List ℕ) → fixed_builtin (rules_of an frame) e ≡ Some path → vs ≡ Builtin path ∷ []
   pub local : (x : ℕ) → local_named (rules_of an frame) e ≡ Some x → is_loose an frame.module_at x ≡ false → (c : ℕ) × Reads frame t x c (first vs)
-  pub guard_shows : (x : ℕ) → (guard (rules_of an frame) e (is_true (first vs)) x ≡ unknown) ⊎ Shows frame t x (guard (rules_of an frame) e (is_true (first vs)) x)
+  pub guard_shows : (x : ℕ) → is_loose an frame.module_at x ≡ false → (guard (rules_of an frame) e (is_true (first vs)) x ≡ unknown) ⊎ Shows frame t x (guard (rules_of an frame) e (is_true (first vs)) x)
   pub kind : (x : ℕ) → kind_subject (rules_of an frame) e ≡ Some x → (c : ℕ) × (v : Value) × Reads frame t x c v × IsKindName v (first vs)
 
 -- how a statement ends: where it falls through, the map after it matches; it breaks, continues and returns only if that stands in

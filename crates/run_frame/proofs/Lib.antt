@@ -31,3 +31,5 @@ pub mod WrapForms
 pub mod Operators
 pub mod Equality
 pub mod OperatorForms
+pub mod Conditions
+pub mod EitherForms

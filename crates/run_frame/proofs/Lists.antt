@@ -45,11 +45,11 @@ may_part frame b c h = record {
     calm_too p true k e = cc
     calm_too p false k e = ap not (k refl)
 
-first_false : (b c : Bool) → b || c ≡ false → b ≡ false
+pub first_false : (b c : Bool) → b || c ≡ false → b ≡ false
 first_false true c e = e
 first_false false c e = refl
 
-second_false : (b c : Bool) → b || c ≡ false → c ≡ false
+pub second_false : (b c : Bool) → b || c ≡ false → c ≡ false
 second_false true c e = absurd (clash e)
   where
     clash : true ≡ false → ⊥

@@ -64,7 +64,7 @@ one_named an w t frame map id span name v f r h q = record {
   one = λ k. (v, refl);
   fixed = λ path k. ap (λ (x : Value). x ∷ []) (named_fixed an w t frame ((rules_of an frame).reading.use_of id) v path f r q k);
   local = λ x k firm. named_local frame t ((rules_of an frame).reading.use_of id) v x q k;
-  guard_shows = λ x. named_guard an frame t ((rules_of an frame).reading.use_of id) v x q;
+  guard_shows = λ x firm. named_guard an frame t ((rules_of an frame).reading.use_of id) v x q;
   kind = λ x k. absurd (none_some x k);
 }
 

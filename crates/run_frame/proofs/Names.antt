@@ -182,7 +182,7 @@ truth_of (Builtin path) = refl
 truth_of (Other number) = refl
 
 -- a value is truthy where it counts as true, and else falsy
-by_truth : (h : Heap) (v : Value) (b : Bool) → is_true v ≡ b → holds h v (if b then truthy else falsy) ≡ true
+pub by_truth : (h : Heap) (v : Value) (b : Bool) → is_true v ≡ b → holds h v (if b then truthy else falsy) ≡ true
 by_truth h v true e = truthy_holds h v ∙ (sym (truth_of v) ∙ e)
 by_truth h v false e = falsy_holds h v ∙ back (is_falsy v) (sym (truth_of v) ∙ e)
   where

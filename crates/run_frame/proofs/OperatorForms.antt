@@ -69,17 +69,17 @@ not_not true = refl
 not_not false = refl
 
 unary_shows : (an : Analysis) (frame : Frame) (map : TypeMap) (id : ℕ) (op : UnOp) (e : Expr) (vs : List Value) (v : Value) (t u : State) → Gives an frame map e vs t → Same t u
-    → ShowsNot op (first vs) v → (x : ℕ) → (guard_of_kind (rules_of an frame) id (Unary op e) (is_true v) x ≡ unknown)
+    → ShowsNot op (first vs) v → (x : ℕ) → is_loose an frame.module_at x ≡ false → (guard_of_kind (rules_of an frame) id (Unary op e) (is_true v) x ≡ unknown)
     ⊎ Shows frame u x (guard_of_kind (rules_of an frame) id (Unary op e) (is_true v) x)
-unary_shows an frame map id Not e vs v t u g same k x = subst (λ (b : Bool). (guard (rules_of an frame) e b x ≡ unknown) ⊎ Shows frame u x (guard (rules_of an frame) e b x))
-    (sym (ap (λ (y : Value). not (is_true y)) k ∙ not_not (is_true (first vs)))) (by_side (g.guard_shows x))
+unary_shows an frame map id Not e vs v t u g same k x firm = subst (λ (b : Bool). (guard (rules_of an frame) e b x ≡ unknown) ⊎ Shows frame u x (guard (rules_of an frame) e b x))
+    (sym (ap (λ (y : Value). not (is_true y)) k ∙ not_not (is_true (first vs)))) (by_side (g.guard_shows x firm))
   where
     by_side : (guard (rules_of an frame) e (is_true (first vs)) x ≡ unknown) ⊎ Shows frame t x (guard (rules_of an frame) e (is_true (first vs)) x)
         → (guard (rules_of an frame) e (is_true (first vs)) x ≡ unknown) ⊎ Shows frame u x (guard (rules_of an frame) e (is_true (first vs)) x)
     by_side (inl y) = inl y
     by_side (inr y) = inr (shows_same frame t u x (guard (rules_of an frame) e (is_true (first vs)) x) same y)
-unary_shows an frame map id Minus e vs v t u g same k x = inl refl
-unary_shows an frame map id Length e vs v t u g same k x = inl refl
+unary_shows an frame map id Minus e vs v t u g same k x firm = inl refl
+unary_shows an frame map id Length e vs v t u g same k x firm = inl refl
 
 unary_gives : (an : Analysis) (frame : Frame) (map : TypeMap) (id : ℕ) (op : UnOp) (e : Expr) (vs : List Value) (v : Value) (t u : State) → Gives an frame map e vs t
     → UnGives t op (first vs) v u → OneGives an frame map id (Unary op e) v u
@@ -280,7 +280,7 @@ both_gives an frame map id op left right a b v k h t u both typed_left typed_rig
   typed = subst (λ (type : Term). holds u.store.heap v type ≡ true) (sym (both.typed (rules_of an frame) map id left right))
       (binary_typed op a b v (typ (rules_of an frame) map left) (typ (rules_of an frame) (after (rules_of an frame) map left) right) k h u.store.heap typed_left typed_right
       (λ n. p.0.2 n u.store.heap));
-  guard_shows = λ x. subst (λ (type : Term). (type ≡ unknown) ⊎ Shows frame u x type)
+  guard_shows = λ x firm. subst (λ (type : Term). (type ≡ unknown) ⊎ Shows frame u x type)
       (sym (both.guards (is_true v) (guard (rules_of an frame) left (is_true v) x) (guard (rules_of an frame) right (is_true v) x)
       (said (is_true v) x (equality (rules_of an frame) left right)) (said (not (is_true v)) x (equality (rules_of an frame) left right))))
       (both_shows an frame u op left right a b v (subject_same an t u frame left a p.0.0 subject_left) (subject_same an t u frame right b p.0.0 subject_right) compared_left compared_right p.1 x);

@@ -67,7 +67,7 @@ plain_gives an frame map id span kind v t plain e = record {
   one = λ k. (v, refl);
   fixed = λ path k. absurd (none_some (fixed_use (rules_of an frame) ((rules_of an frame).reading.use_of id)) path (ap (fixed_use (rules_of an frame)) e) k);
   local = λ x k l. absurd (none_some (local_named (rules_of an frame) (the_expr id span kind)) x (plain.no_local (rules_of an frame) id span) k);
-  guard_shows = λ x. inl (plain.no_guard (rules_of an frame) id (is_true v) x);
+  guard_shows = λ x firm. inl (plain.no_guard (rules_of an frame) id (is_true v) x);
   kind = λ x k. absurd (none_some (kind_subject (rules_of an frame) (the_expr id span kind)) x (plain.no_subject (rules_of an frame) id span) k);
 }
 

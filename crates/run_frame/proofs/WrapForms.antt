@@ -1,5 +1,5 @@
 -- `(e)` and `e :: T`, forward and backward: one value of the part, with what it shows.
-use Rattle.std.proofs.Common.{◌≡◌, true, List, [], ◌∷◌, ◌⊎◌, inl, refl, sym, ap, subst}
+use Rattle.std.proofs.Common.{◌≡◌, true, false, List, [], ◌∷◌, ◌⊎◌, inl, refl, sym, ap, subst}
 use Rattle.luau_values.specs.Value.{Value}
 use Rattle.luau_values.specs.Stands.{Stands}
 use Rattle.luau_tree.specs.Tree.{Expr, the_expr, ExprKind, Paren, Assert}
@@ -16,7 +16,7 @@ use Rattle.report_rules.specs.Forward.{typ}
 use Rattle.report_rules.specs.Seen.{seen_expr}
 use Rattle.report_rules.specs.Checks.{ReportKind}
 use Rattle.report_rules.specs.Findings.{found}
-use Rattle.run_frame.specs.Analysis.{Analysis}
+use Rattle.run_frame.specs.Analysis.{Analysis, is_loose}
 use Rattle.run_frame.specs.Statements.{stats_of_expr}
 use Rattle.run_frame.specs.Fit.{Fit}
 use Rattle.run_frame.proofs.World.{World}
@@ -53,7 +53,7 @@ paren_gives : (an : Analysis) (frame : Frame) (map : TypeMap) (id : _) (e : Expr
 paren_gives an frame map id e v t (vs, q, p) = record {
   stands = subst (λ (x : Value). Stands t.store.heap x) (sym q) (first_stands t.store.heap vs p.0.stand);
   typed = subst (λ (x : Value). holds t.store.heap x (typ (rules_of an frame) map e) ≡ true) (sym q) p.0.typed;
-  guard_shows = subst (λ (y : Value). (x : _) → (guard (rules_of an frame) e (is_true y) x ≡ unknown) ⊎ Shows frame t x (guard (rules_of an frame) e (is_true y) x)) (sym q) p.0.guard_shows;
+  guard_shows = subst (λ (y : Value). (x : _) → is_loose an frame.module_at x ≡ false → (guard (rules_of an frame) e (is_true y) x ≡ unknown) ⊎ Shows frame t x (guard (rules_of an frame) e (is_true y) x)) (sym q) p.0.guard_shows;
 }
 
 assert_gives : (an : Analysis) (frame : Frame) (map : TypeMap) (id : _) (e : Expr) (type : _) (v : Value) (t : State) → FirstOf (After an frame map e) v t
@@ -61,7 +61,7 @@ assert_gives : (an : Analysis) (frame : Frame) (map : TypeMap) (id : _) (e : Exp
 assert_gives an frame map id e type v t (vs, q, p) = record {
   stands = subst (λ (x : Value). Stands t.store.heap x) (sym q) (first_stands t.store.heap vs p.0.stand);
   typed = subst (λ (x : Value). holds t.store.heap x (typ (rules_of an frame) map e) ≡ true) (sym q) p.0.typed;
-  guard_shows = λ x. inl refl;
+  guard_shows = λ x firm. inl refl;
 }
 
 pub paren_forward : (an : Analysis) (l : Layer) → Fit an → Forward an l → (w : World) (s : State) (frame : Frame) (map : TypeMap) (id : _) (span : _) (e : Expr) → Fine an w s → Runs an w s frame
