@@ -1,15 +1,15 @@
 -- Forms of expressions that stand for nothing by themselves: what holds of the form, from where its place was reached, holds of
 -- the expression. And expressions and values that gave.
-use Rattle.std.proofs.Common.{◌≡◌, ℕ, ◌+◌, true, false, List, [], ◌∷◌, Option, Some, None, ◌⊎◌, refl, sym, ◌∙◌, ap, subst}
+use Rattle.std.proofs.Common.{◌≡◌, ℕ, ◌+◌, true, false, List, [], ◌∷◌, ◌++◌, Option, Some, None, ◌⊎◌, refl, sym, ◌∙◌, ap, subst}
 use Rattle.luau_values.specs.Value.{Value}
 use Rattle.std.specs.List.{AllByRecursion}
 use Rattle.luau_values.specs.Heap.{Heap}
 use Rattle.luau_values.specs.Stands.{Stands}
-use Rattle.luau_tree.specs.Tree.{Expr, the_expr, ExprKind}
+use Rattle.luau_tree.specs.Tree.{Expr, the_expr, ExprKind, Stat}
 use Rattle.luau_tree.specs.declared.names.Place.TheVariants.{Expr as ExprPlace}
 use Rattle.luau_run.specs.ReadModule.{Use, ReadModule}
 use Rattle.luau_run.specs.ReadFolder.{name_of, spelled}
-use Rattle.luau_run.specs.SyntaxNode.{of_expr, of_expr_kind, AnExpr}
+use Rattle.luau_run.specs.SyntaxNode.{SyntaxNode, of_block, of_expr, of_expr_kind, AnExpr}
 use Rattle.luau_run.specs.Machine.{State, Gave, Part, ◌>>=◌, give}
 use Rattle.luau_run.specs.Layer.{Frame, Layer, first}
 use Rattle.luau_run.specs.Expressions.{value, one, values, evaluate, evaluate_or_builtin}
@@ -27,16 +27,16 @@ use Rattle.report_rules.specs.Checks.{ReportKind}
 use Rattle.report_rules.specs.Errors.{ev_in, unless_builtin}
 use Rattle.report_rules.specs.Findings.{own_kinds, found}
 use Rattle.run_frame.specs.Analysis.{Analysis, is_loose}
-use Rattle.run_frame.specs.Statements.{stats_of_expr}
+use Rattle.run_frame.specs.Statements.{stats_of_block, stats_of_expr}
 use Rattle.run_frame.specs.Fit.{Fit}
 use Rattle.run_frame.proofs.World.{World}
 use Rattle.run_frame.proofs.Counts.{is_reported, reached, one_if}
 use Rattle.run_frame.proofs.Kept.{Kept}
-use Rattle.run_frame.proofs.Fine.{Fine}
+use Rattle.run_frame.proofs.Fine.{Sub, Fine}
 use Rattle.run_frame.proofs.Held.{Runs, runs_kept, Held, Violated, violated_same}
 use Rattle.run_frame.proofs.Parts.{Ends, ends_so, ends_gave, gave_then, gave_same}
 use Rattle.run_frame.proofs.Layers.{rules_of, seen_of, expr_of, Inside, Placed, Marked, Shows, Gives, Pays, Forward, Backward}
-use Rattle.run_frame.proofs.Readings.{contains_head, reads_same, means, no_use}
+use Rattle.run_frame.proofs.Readings.{contains_head, sub_left, sub_right, reads_same, means, no_use}
 use Rattle.run_frame.proofs.Passing.{held_after}
 use Rattle.run_frame.proofs.Lists.{FirstOf, ends_value}
 use Rattle.run_frame.proofs.Expressions.{Opened, ends_values, values_gave}
@@ -190,3 +190,32 @@ value_forward an l fwd w s frame map e f r h inside placed = ends_value an (expr
 pub first_stands : (heap : Heap) (vs : List Value) → AllByRecursion (Stands heap) vs → Stands heap (first vs)
 first_stands heap [] h = tt
 first_stands heap (v ∷ vs) h = h.0
+
+-- ---- three in a row
+
+pub sub_one : {A : Type 0} (xs ys zs all : List A) → Sub (xs ++ ys ++ zs) all → Sub xs all
+sub_one xs ys zs all h = sub_left xs ys all (sub_left (xs ++ ys) zs all h)
+
+pub sub_two : {A : Type 0} (xs ys zs all : List A) → Sub (xs ++ ys ++ zs) all → Sub ys all
+sub_two xs ys zs all h = sub_right xs ys all (sub_left (xs ++ ys) zs all h)
+
+pub sub_three : {A : Type 0} (xs ys zs all : List A) → Sub (xs ++ ys ++ zs) all → Sub zs all
+sub_three xs ys zs all h = sub_right (xs ++ ys) zs all h
+
+pub inside_one : (frame : Frame) (xs ys zs : List SyntaxNode) (ss rs qs : List Stat) → Inside frame (xs ++ ys ++ zs) (ss ++ rs ++ qs) → Inside frame xs ss
+inside_one frame xs ys zs ss rs qs h = record {
+  nodes = sub_one xs ys zs (of_block frame.reading.block) h.nodes;
+  stats = sub_one ss rs qs (stats_of_block frame.reading.block) h.stats;
+}
+
+pub inside_two : (frame : Frame) (xs ys zs : List SyntaxNode) (ss rs qs : List Stat) → Inside frame (xs ++ ys ++ zs) (ss ++ rs ++ qs) → Inside frame ys rs
+inside_two frame xs ys zs ss rs qs h = record {
+  nodes = sub_two xs ys zs (of_block frame.reading.block) h.nodes;
+  stats = sub_two ss rs qs (stats_of_block frame.reading.block) h.stats;
+}
+
+pub inside_three : (frame : Frame) (xs ys zs : List SyntaxNode) (ss rs qs : List Stat) → Inside frame (xs ++ ys ++ zs) (ss ++ rs ++ qs) → Inside frame zs qs
+inside_three frame xs ys zs ss rs qs h = record {
+  nodes = sub_three xs ys zs (of_block frame.reading.block) h.nodes;
+  stats = sub_three ss rs qs (stats_of_block frame.reading.block) h.stats;
+}

@@ -33,3 +33,4 @@ pub mod Equality
 pub mod OperatorForms
 pub mod Conditions
 pub mod EitherForms
+pub mod ChoiceForms
