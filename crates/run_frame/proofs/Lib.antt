@@ -34,3 +34,4 @@ pub mod OperatorForms
 pub mod Conditions
 pub mod EitherForms
 pub mod ChoiceForms
+pub mod IfForms
