@@ -1,5 +1,5 @@
 -- Guards speak of kinds alone: their rows are none, or that of all tables; and of locals that aren't loose.
-use Rattle.std.proofs.Common.{◌≡◌, ℕ, Bool, true, false, not, ◌==◌, ◌||◌, if◌then◌else◌, List, [], ◌∷◌, ◌++◌, Option, Some, None, ◌⊎◌, inl, inr, refl, sym, subst, codes}
+use Rattle.std.proofs.Common.{◌≡◌, ℕ, Bool, true, false, not, ◌==◌, ◌||◌, if◌then◌else◌, List, [], ◌∷◌, ◌++◌, Option, Some, None, ◌⊎◌, inl, inr, refl, sym, ◌∙◌, ap, subst, codes}
 use Rattle.std.proofs.lemmas.Bool.{eqb-true}
 use Rattle.std.specs.Str.{bytes_eq}
 use Rattle.luau_tree.specs.declared.names.BinOp.{BinOp}
@@ -9,7 +9,7 @@ use Rattle.luau_tree.specs.Tree.{Expr, the_expr, no_exprs, more_exprs, ExprKind,
 use Rattle.luau_run.specs.ReadFolder.{local_of, is_among}
 use Rattle.type_arena.specs.Term.{Term, term, no_rows, more_rows, no_fields, more_fields}
 use Rattle.type_normal.specs.Operations.{union, meet, not_free, is_flat}
-use Rattle.type_normal.specs.Kinds.{nil_type, true_type, false_type, boolean_type, number_type, string_type, function_type, other_type, table_type, text_type, falsy, truthy}
+use Rattle.type_normal.specs.Kinds.{unknown, nil_type, true_type, false_type, boolean_type, number_type, string_type, function_type, other_type, table_type, text_type, falsy, truthy}
 use Rattle.report_rules.specs.Rules.{Rules, loose, local_named}
 use Rattle.report_rules.specs.Guard.{Says, exactly, equals, kind_equals, firm_only, firm_local, kind_subject, kind_says, local_says, or_else, side_says, equality, said, name_says, joined_guard, guard, guard_of_kind, is_type, said_of, named_local, joined_locals, guarded, guarded_in}
 
@@ -252,3 +252,44 @@ mutual
       (among_two x (guarded rules left) (guarded rules right) k))
       (λ k. among_said rules (equality rules left right) x (firm_equality rules left right) k) h
   firm_in rules id _ x h = cc
+
+-- ---- of a loose local a guard says nothing
+
+said_loose : (rules : Rules) (truth : Bool) (x : ℕ) (o : Option Says) → SaysFirm rules o → loose rules x ≡ true → said truth x o ≡ unknown
+said_loose rules truth x None h l = refl
+said_loose rules truth x (Some says) h l = by_local (says.local == x) refl
+  where
+    by_local : (b : Bool) → (says.local == x) ≡ b → (if b then (if truth then says.when_true else says.when_false) else unknown) ≡ unknown
+    by_local true e = absurd (clash (loose rules x) l (subst (λ (y : ℕ). loose rules y ≡ false) (eqb-true says.local x e) h))
+    by_local false e = refl
+
+name_loose : (rules : Rules) (truth : Bool) (x : ℕ) (o : Option ℕ) → IsFirm rules o → loose rules x ≡ true → name_says truth x o ≡ unknown
+name_loose rules truth x None h l = refl
+name_loose rules truth x (Some named) h l = by_local (named == x) refl
+  where
+    by_local : (b : Bool) → (named == x) ≡ b → (if b then (if truth then truthy else falsy) else unknown) ≡ unknown
+    by_local true e = absurd (clash (loose rules x) l (subst (λ (y : ℕ). loose rules y ≡ false) (eqb-true named x e) h))
+    by_local false e = refl
+
+joined_loose : (op : BinOp) (truth : Bool) (l r e n : Term) → l ≡ unknown → r ≡ unknown → e ≡ unknown → n ≡ unknown → joined_guard op truth l r e n ≡ unknown
+joined_loose And true l r e n a b c d = ap (λ (t : Term). meet t r) a ∙ ap (λ (t : Term). meet unknown t) b
+joined_loose And false l r e n a b c d = ap (λ (t : Term). union t r) a ∙ ap (λ (t : Term). union unknown t) b
+joined_loose Or true l r e n a b c d = ap (λ (t : Term). union t r) a ∙ ap (λ (t : Term). union unknown t) b
+joined_loose Or false l r e n a b c d = ap (λ (t : Term). meet t r) a ∙ ap (λ (t : Term). meet unknown t) b
+joined_loose Equal truth l r e n a b c d = c
+joined_loose NotEqual truth l r e n a b c d = d
+joined_loose _ truth l r e n a b c d = refl
+
+mutual
+  pub guard_loose : (rules : Rules) (e : Expr) (truth : Bool) (x : ℕ) → loose rules x ≡ true → guard rules e truth x ≡ unknown
+  guard_loose rules (the_expr id span kind) truth x l = guard_in_loose rules id kind truth x l
+
+  guard_in_loose : (rules : Rules) (id : ℕ) (kind : ExprKind) (truth : Bool) (x : ℕ) → loose rules x ≡ true → guard_of_kind rules id kind truth x ≡ unknown
+  guard_in_loose rules id (NameExpr name) truth x l = name_loose rules truth x (firm_only rules (local_of (rules.reading.use_of id))) (firm_only_firm rules (local_of (rules.reading.use_of id))) l
+  guard_in_loose rules id (Paren e) truth x l = guard_loose rules e truth x l
+  guard_in_loose rules id (Unary Not e) truth x l = guard_loose rules e (not truth) x l
+  guard_in_loose rules id (Binary op left right) truth x l =
+      joined_loose op truth (guard rules left truth x) (guard rules right truth x) (said truth x (equality rules left right)) (said (not truth) x (equality rules left right))
+      (guard_loose rules left truth x l) (guard_loose rules right truth x l) (said_loose rules truth x (equality rules left right) (firm_equality rules left right) l)
+      (said_loose rules (not truth) x (equality rules left right) (firm_equality rules left right) l)
+  guard_in_loose rules id _ truth x l = refl

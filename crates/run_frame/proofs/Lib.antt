@@ -35,3 +35,5 @@ pub mod Conditions
 pub mod EitherForms
 pub mod ChoiceForms
 pub mod IfForms
+pub mod PathForms
+pub mod PartForms
