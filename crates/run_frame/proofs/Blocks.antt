@@ -30,6 +30,7 @@ use Rattle.run_frame.proofs.Fine.{Fine}
 use Rattle.run_frame.proofs.Held.{Runs, runs_kept, Held}
 use Rattle.run_frame.proofs.Parts.{Ends, ends_then, ends_so, ends_more, ends_give, ends_gave, gave_then, gave_same}
 use Rattle.run_frame.proofs.Layers.{rules_of, seen_of, stat_of, block_of, Inside, Placed, Marked, Leads, EndsBad, Trouble, Forward, Backward}
+use Rattle.run_frame.proofs.LooseContexts.{SparesAll, spare_block}
 use Rattle.run_frame.proofs.Readings.{sub_left, sub_right}
 use Rattle.run_frame.proofs.Lists.{inside_left, inside_right}
 
@@ -154,20 +155,21 @@ pub block_backward : (an : Analysis) (l : Layer) → Forward an l → Backward a
     (behind breaks_to continues_to : Context) → Fine an w s → Runs an w s frame → Held an frame map s → Inside frame (of_block b) (stats_of_block b)
     → Placed an frame (seen_block (rules_of an frame) map b)
     → Marked an frame (found_block (rules_of an frame) (seen_of an frame) b behind breaks_to continues_to)
-    → (ending : Ending) (t : State) → block l frame b s ≡ Gave ending t
+    → SparesAll (rules_of an frame) behind breaks_to continues_to → (ending : Ending) (t : State) → block l frame b s ≡ Gave ending t
     → Trouble an frame (stm_block (rules_of an frame) (seen_of an frame) b behind breaks_to continues_to) s t → EndsBad an frame behind breaks_to continues_to ending t
 unfolding ◌>>=◌ give
-block_backward an l fwd bwd w s frame map no_stats behind breaks_to continues_to f r h inside placed marked ending t e (inl y) =
+block_backward an l fwd bwd w s frame map no_stats behind breaks_to continues_to f r h inside placed marked spares ending t e (inl y) =
     same_end an frame behind breaks_to continues_to Falls ending s t e y
-block_backward an l fwd bwd w s frame map no_stats behind breaks_to continues_to f r h inside placed marked ending t e (inr y) =
+block_backward an l fwd bwd w s frame map no_stats behind breaks_to continues_to f r h inside placed marked spares ending t e (inr y) =
     absurd (omega (arith, y, ap (λ (x : State). reached an frame.activation x.trace) (gave_same Falls ending s t e).1))
-block_backward an l fwd bwd w s frame map (more_stats st rest) behind breaks_to continues_to f r h inside placed marked ending t e y =
+block_backward an l fwd bwd w s frame map (more_stats st rest) behind breaks_to continues_to f r h inside placed marked spares ending t e y =
     by_parts (gave_then (l.stat frame st s) (block_rest (block l frame rest)) ending t e)
     (λ m mid g x. bwd.stat w s frame map st (stm_block (rules_of an frame) (seen_of an frame) rest behind breaks_to continues_to) breaks_to continues_to f r h
     (inside_left frame (of_stat st) (of_block rest) (stats_of st) (stats_of_block rest) inside)
     (sub_left (seen_stat (rules_of an frame) map st) (seen_block (rules_of an frame) (after_stat (rules_of an frame) map st) rest) (seen_of an frame) placed)
     (sub_left (found_stat (rules_of an frame) (seen_of an frame) st (stm_block (rules_of an frame) (seen_of an frame) rest behind breaks_to continues_to) breaks_to continues_to)
-    (found_block (rules_of an frame) (seen_of an frame) rest behind breaks_to continues_to) (findings (rules_of an frame)) marked) mid m g x)
+    (found_block (rules_of an frame) (seen_of an frame) rest behind breaks_to continues_to) (findings (rules_of an frame)) marked)
+    (spare_block (rules_of an frame) (seen_of an frame) rest behind breaks_to continues_to spares.0 spares.1 spares.2, spares.1, spares.2) mid m g x)
     (λ m g. ends_gave an (stat_of an frame st) w s (Leads an frame map st) (l.stat frame st s) Falls m g
     (fwd.stat w s frame map st f r h (inside_left frame (of_stat st) (of_block rest) (stats_of st) (stats_of_block rest) inside)
     (sub_left (seen_stat (rules_of an frame) map st) (seen_block (rules_of an frame) (after_stat (rules_of an frame) map st) rest) (seen_of an frame) placed)))
@@ -176,7 +178,7 @@ block_backward an l fwd bwd w s frame map (more_stats st rest) behind breaks_to 
     (inside_right frame (of_stat st) (of_block rest) (stats_of st) (stats_of_block rest) inside)
     (sub_right (seen_stat (rules_of an frame) map st) (seen_block (rules_of an frame) (after_stat (rules_of an frame) map st) rest) (seen_of an frame) placed)
     (sub_right (found_stat (rules_of an frame) (seen_of an frame) st (stm_block (rules_of an frame) (seen_of an frame) rest behind breaks_to continues_to) breaks_to continues_to)
-    (found_block (rules_of an frame) (seen_of an frame) rest behind breaks_to continues_to) (findings (rules_of an frame)) marked) ending t n x)
+    (found_block (rules_of an frame) (seen_of an frame) rest behind breaks_to continues_to) (findings (rules_of an frame)) marked) spares ending t n x)
   where
     by_parts : (mid : Ending) × (m : State) × (l.stat frame st s ≡ Gave mid m) × (block_rest (block l frame rest) mid m ≡ Gave ending t)
         → ((m : State) (mid : Ending) → l.stat frame st s ≡ Gave mid m

@@ -5,7 +5,7 @@ use Rattle.luau_values.specs.Heap.{Heap}
 use Rattle.luau_values.specs.Stands.{Stands}
 use Rattle.luau_tree.specs.Tree.{Expr, the_expr, IfElse, Choices, no_choices, more_choices}
 use Rattle.luau_run.specs.SyntaxNode.{AnExpr, of_expr, of_choices, of_block}
-use Rattle.luau_run.specs.Machine.{State, Gave, Part, ◌>>=◌}
+use Rattle.luau_run.specs.Machine.{State, Gave, ◌>>=◌}
 use Rattle.luau_run.specs.Layer.{Frame, Layer, first}
 use Rattle.luau_run.specs.Operators.{is_true}
 use Rattle.luau_run.specs.Expressions.{value, one, values, chosen}
@@ -16,7 +16,7 @@ use Rattle.report_rules.specs.Effects.{effects, effects_of_choices}
 use Rattle.report_rules.specs.TypeMap.{TypeMap, refine}
 use Rattle.report_rules.specs.Forward.{typ, type_of_choices, after}
 use Rattle.report_rules.specs.Seen.{seen_expr, seen_choices}
-use Rattle.report_rules.specs.Context.{Context, branch}
+use Rattle.report_rules.specs.Context.{branch}
 use Rattle.report_rules.specs.Checks.{ReportKind}
 use Rattle.report_rules.specs.Errors.{ev, ev_choices}
 use Rattle.report_rules.specs.Findings.{found, found_choices}
@@ -37,7 +37,7 @@ use Rattle.run_frame.proofs.Passing.{violated_followed}
 use Rattle.run_frame.proofs.Lists.{may_part, inside_left, inside_right, first_false, second_false, FirstOf}
 use Rattle.run_frame.proofs.Blocks.{in_first, in_second}
 use Rattle.run_frame.proofs.Statements.{unchecked_count}
-use Rattle.run_frame.proofs.Forms.{one_gave, value_gave, Evaluated, evaluated, IsForm, form_read, form_forward, OneGives, one_gives, FormPays, form_backward, After, value_forward, first_stands, sub_one, sub_two, sub_three, inside_one, inside_two, inside_three}
+use Rattle.run_frame.proofs.Forms.{one_gave, value_gave, Evaluated, evaluated, IsForm, form_read, form_forward, one_gives, FormPays, form_backward, After, value_forward, first_stands, sub_one, sub_two, sub_three, inside_one, inside_two, inside_three}
 use Rattle.run_frame.proofs.Conditions.{shows_all, held_way, way_violated}
 
 -- ---- effects of parts
@@ -56,7 +56,6 @@ rest_calm a b c d e = both_false c d (second_false b c (second_false a (b || c) 
     both_false false q h k = k
 
 -- ---- forward
-
 
 -- the value stands, and is of the type of the choices
 abbrev ChoiceGives : Analysis → Frame → TypeMap → Choices → Expr → Value → State → Type 0

@@ -1,5 +1,5 @@
 -- Conditions that came out one way: the map after them, and the context that they choose.
-use Rattle.std.proofs.Common.{◌≡◌, ℕ, Bool, true, false, if◌then◌else◌, List, ◌⊎◌, inl, inr, refl, sym, ◌∙◌, subst}
+use Rattle.std.proofs.Common.{◌≡◌, ℕ, Bool, true, false, if◌then◌else◌, List, ◌⊎◌, inl, inr, refl, ◌∙◌, subst}
 use Rattle.luau_values.specs.Value.{Value}
 use Rattle.luau_values.specs.Heap.{Heap}
 use Rattle.luau_tree.specs.Tree.{Expr}
@@ -8,13 +8,13 @@ use Rattle.luau_run.specs.Layer.{Frame, first}
 use Rattle.luau_run.specs.Operators.{is_true}
 use Rattle.type_arena.specs.Term.{Term, term, no_rows, more_rows, no_fields, more_fields}
 use Rattle.type_normal.specs.Holds.{holds}
-use Rattle.type_normal.specs.Operations.{union, meet, is_flat}
+use Rattle.type_normal.specs.Operations.{is_flat}
 use Rattle.type_normal.specs.Kinds.{unknown}
 use Rattle.report_rules.specs.Guard.{guard}
 use Rattle.report_rules.specs.TypeMap.{TypeMap, refine}
 use Rattle.report_rules.specs.Forward.{after}
 use Rattle.report_rules.specs.Context.{Context, branch}
-use Rattle.run_frame.specs.Analysis.{Analysis, is_loose}
+use Rattle.run_frame.specs.Analysis.{Analysis}
 use Rattle.run_frame.proofs.World.{World}
 use Rattle.run_frame.proofs.Kept.{Kept}
 use Rattle.run_frame.proofs.Fine.{Fine}
@@ -53,8 +53,12 @@ shows_before an w v s t frame b cond way f r k shows x firm = by_side (shows x f
     by_side : (guard (rules_of an frame) cond way x ≡ unknown) ⊎ Shows frame t x (guard (rules_of an frame) cond way x)
         → (guard (rules_of an frame) cond way x ≡ unknown) ⊎ Shows frame s x (guard (rules_of an frame) cond way x)
     by_side (inl e) = inl e
-    by_side (inr e) = inr (e.0, e.1, reads_before an (part_of frame b) w v s t frame f r k x e.0 e.1 refl refl firm e.2,
-        flat_any s.store.heap t.store.heap e.1 (guard (rules_of an frame) cond way x) (guard_flat an frame cond way x) ∙ e.3)
+    by_side (inr e) = inr (
+      e.0,
+      e.1,
+      reads_before an (part_of frame b) w v s t frame f r k x e.0 e.1 refl refl firm e.2,
+      flat_any s.store.heap t.store.heap e.1 (guard (rules_of an frame) cond way x) (guard_flat an frame cond way x) ∙ e.3,
+    )
 
 pub shows_later : (an : Analysis) (w v : World) (s t : State) (frame : Frame) (b : Bool) (cond : Expr) (way : Bool) → Fine an w s → Runs an w s frame → Kept an (part_of frame b) w s v t
     → ShowsAll an frame cond way s → ShowsAll an frame cond way t
@@ -63,8 +67,12 @@ shows_later an w v s t frame b cond way f r k shows x firm = by_side (shows x fi
     by_side : (guard (rules_of an frame) cond way x ≡ unknown) ⊎ Shows frame s x (guard (rules_of an frame) cond way x)
         → (guard (rules_of an frame) cond way x ≡ unknown) ⊎ Shows frame t x (guard (rules_of an frame) cond way x)
     by_side (inl e) = inl e
-    by_side (inr e) = inr (e.0, e.1, reads_after an (part_of frame b) w v s t frame f r k x e.0 e.1 refl refl firm e.2,
-        flat_any t.store.heap s.store.heap e.1 (guard (rules_of an frame) cond way x) (guard_flat an frame cond way x) ∙ e.3)
+    by_side (inr e) = inr (
+      e.0,
+      e.1,
+      reads_after an (part_of frame b) w v s t frame f r k x e.0 e.1 refl refl firm e.2,
+      flat_any t.store.heap s.store.heap e.1 (guard (rules_of an frame) cond way x) (guard_flat an frame cond way x) ∙ e.3,
+    )
 
 -- the context that a condition chose, at its end or before it
 pub way_violated : (an : Analysis) (frame : Frame) (cond : Expr) (way : Bool) (when_true when_false : Context) (t : State) → ShowsAll an frame cond way t

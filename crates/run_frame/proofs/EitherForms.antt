@@ -1,5 +1,5 @@
 -- `a and b` and `a or b`, forward and backward.
-use Rattle.std.proofs.Common.{◌≡◌, ℕ, Bool, true, false, not, ◌||◌, ◌&&◌, if◌then◌else◌, List, [], ◌∷◌, ◌++◌, ◌⊎◌, inl, inr, refl, sym, ◌∙◌, ap, subst}
+use Rattle.std.proofs.Common.{◌≡◌, ℕ, Bool, true, false, not, ◌||◌, ◌&&◌, List, [], ◌∷◌, ◌++◌, ◌⊎◌, inl, inr, refl, sym, ◌∙◌, ap, subst}
 use Rattle.luau_values.specs.Value.{Value}
 use Rattle.luau_values.specs.Heap.{Heap}
 use Rattle.luau_values.specs.Stands.{Stands}
@@ -34,9 +34,9 @@ use Rattle.run_frame.specs.Statements.{stats_of_expr}
 use Rattle.run_frame.specs.Fit.{Fit}
 use Rattle.run_frame.proofs.World.{World}
 use Rattle.run_frame.proofs.Counts.{reached}
-use Rattle.run_frame.proofs.Kept.{Doer, Kept}
+use Rattle.run_frame.proofs.Kept.{Doer}
 use Rattle.run_frame.proofs.Fine.{Fine}
-use Rattle.run_frame.proofs.Held.{Runs, runs_kept, Reads, Held, held_store, Violated}
+use Rattle.run_frame.proofs.Held.{Runs, runs_kept, Held, held_store, Violated}
 use Rattle.run_frame.proofs.Parts.{Ends, ends_so, ends_then, ends_more, ends_give, gave_then, gave_same}
 use Rattle.run_frame.proofs.Layers.{rules_of, seen_of, part_of, expr_of, Inside, Placed, Marked, Shows, Gives, Pays, Forward, Backward}
 use Rattle.run_frame.proofs.Readings.{sub_tail, sub_left, sub_right}
@@ -131,13 +131,28 @@ both_true false q e k = cc
 meet_shows : (frame : Frame) (t : State) (x : ℕ) (left right : Term) → (left ≡ unknown) ⊎ Shows frame t x left → (right ≡ unknown) ⊎ Shows frame t x right
     → (meet left right ≡ unknown) ⊎ Shows frame t x (meet left right)
 meet_shows frame t x left right (inl e) (inl k) = inl (ap (λ (type : Term). meet type right) e ∙ ap (λ (type : Term). meet unknown type) k)
-meet_shows frame t x left right (inl e) (inr k) = inr (k.0, k.1, k.2, meet_holds t.store.heap k.1 left right
-    ∙ both_true (holds t.store.heap k.1 left) (holds t.store.heap k.1 right) (subst (λ (type : Term). holds t.store.heap k.1 type ≡ true) (sym e) (unknown_all t.store.heap k.1)) k.3)
-meet_shows frame t x left right (inr e) (inl k) = inr (e.0, e.1, e.2, meet_holds t.store.heap e.1 left right
-    ∙ both_true (holds t.store.heap e.1 left) (holds t.store.heap e.1 right) e.3 (subst (λ (type : Term). holds t.store.heap e.1 type ≡ true) (sym k) (unknown_all t.store.heap e.1)))
-meet_shows frame t x left right (inr e) (inr k) = inr (e.0, e.1, e.2, meet_holds t.store.heap e.1 left right
-    ∙ both_true (holds t.store.heap e.1 left) (holds t.store.heap e.1 right) e.3
-    (subst (λ (v : Value). holds t.store.heap v right ≡ true) (reads_once frame t x k.0 e.0 k.1 e.1 k.2 e.2) k.3))
+meet_shows frame t x left right (inl e) (inr k) = inr (
+  k.0,
+  k.1,
+  k.2,
+  meet_holds t.store.heap k.1 left right
+      ∙ both_true (holds t.store.heap k.1 left) (holds t.store.heap k.1 right) (subst (λ (type : Term). holds t.store.heap k.1 type ≡ true) (sym e) (unknown_all t.store.heap k.1)) k.3,
+)
+meet_shows frame t x left right (inr e) (inl k) = inr (
+  e.0,
+  e.1,
+  e.2,
+  meet_holds t.store.heap e.1 left right
+      ∙ both_true (holds t.store.heap e.1 left) (holds t.store.heap e.1 right) e.3 (subst (λ (type : Term). holds t.store.heap e.1 type ≡ true) (sym k) (unknown_all t.store.heap e.1)),
+)
+meet_shows frame t x left right (inr e) (inr k) = inr (
+  e.0,
+  e.1,
+  e.2,
+  meet_holds t.store.heap e.1 left right
+      ∙ both_true (holds t.store.heap e.1 left) (holds t.store.heap e.1 right) e.3
+      (subst (λ (v : Value). holds t.store.heap v right ≡ true) (reads_once frame t x k.0 e.0 k.1 e.1 k.2 e.2) k.3),
+)
 
 -- one did; of the other nothing is known
 left_shows : (frame : Frame) (t : State) (x : ℕ) (left right : Term) → is_flat right ≡ true → (left ≡ unknown) ⊎ Shows frame t x left → (union left right ≡ unknown) ⊎ Shows frame t x (union left right)

@@ -7,7 +7,6 @@ use Rattle.std.proofs.lemmas.Slice.Eq.{bytes_eq-Decides}
 use Rattle.luau_values.specs.Value.{Value, Nil, Truth, Num, Str, Tab, Lit, Builtin, Other}
 use Rattle.luau_values.specs.Heap.{Heap}
 use Rattle.luau_tree.specs.Tree.{Expr, the_expr, ExprKind, NilExpr, TrueExpr, FalseExpr, NumberExpr, StrExpr}
-use Rattle.luau_run.specs.ReadModule.{Use}
 use Rattle.luau_run.specs.Machine.{State}
 use Rattle.luau_run.specs.Answers.{is_other_kind}
 use Rattle.luau_run.specs.Layer.{Frame}
@@ -16,9 +15,9 @@ use Rattle.type_normal.specs.Holds.{holds}
 use Rattle.type_normal.specs.Operations.{union, not_free, is_flat}
 use Rattle.type_normal.specs.Kinds.{unknown, nil_type, true_type, false_type, boolean_type, number_type, string_type, function_type, other_type, table_type, text_type}
 use Rattle.type_normal.proofs.Public.{not_free_holds, text_holds, text_is_in, unknown_all}
-use Rattle.report_rules.specs.Rules.{Rules, loose, local_named}
-use Rattle.report_rules.specs.Guard.{Says, exactly, equals, kind_equals, firm_only, firm_local, kind_subject, kind_says, local_says, or_else, side_says, equality, said}
-use Rattle.report_rules.specs.Forward.{builtin_or, type_of_kind}
+use Rattle.report_rules.specs.Rules.{Rules}
+use Rattle.report_rules.specs.Guard.{Says, exactly, equals, kind_equals, firm_local, kind_subject, kind_says, local_says, or_else, side_says, equality, said}
+use Rattle.report_rules.specs.Forward.{type_of_kind}
 use Rattle.run_frame.specs.Analysis.{Analysis}
 use Rattle.run_frame.proofs.Held.{Reads}
 use Rattle.run_frame.proofs.Layers.{rules_of, IsKindName, Shows}

@@ -1,12 +1,11 @@
 -- Forms of expressions that stand for nothing by themselves: what holds of the form, from where its place was reached, holds of
 -- the expression. And expressions and values that gave.
-use Rattle.std.proofs.Common.{◌≡◌, ℕ, ◌+◌, true, false, List, [], ◌∷◌, ◌++◌, Option, Some, None, ◌⊎◌, refl, sym, ◌∙◌, ap, subst}
+use Rattle.std.proofs.Common.{◌≡◌, ℕ, true, false, List, [], ◌∷◌, ◌++◌, Option, Some, None, ◌⊎◌, refl, sym, ◌∙◌, ap, subst}
 use Rattle.luau_values.specs.Value.{Value}
 use Rattle.std.specs.List.{AllByRecursion}
 use Rattle.luau_values.specs.Heap.{Heap}
 use Rattle.luau_values.specs.Stands.{Stands}
 use Rattle.luau_tree.specs.Tree.{Expr, the_expr, ExprKind, Stat}
-use Rattle.luau_tree.specs.declared.names.Place.TheVariants.{Expr as ExprPlace}
 use Rattle.luau_run.specs.ReadModule.{Use, ReadModule}
 use Rattle.luau_run.specs.ReadFolder.{name_of, spelled}
 use Rattle.luau_run.specs.SyntaxNode.{SyntaxNode, of_block, of_expr, of_expr_kind, AnExpr}
@@ -30,7 +29,7 @@ use Rattle.run_frame.specs.Analysis.{Analysis, is_loose}
 use Rattle.run_frame.specs.Statements.{stats_of_block, stats_of_expr}
 use Rattle.run_frame.specs.Fit.{Fit}
 use Rattle.run_frame.proofs.World.{World}
-use Rattle.run_frame.proofs.Counts.{is_reported, reached, one_if}
+use Rattle.run_frame.proofs.Counts.{reached}
 use Rattle.run_frame.proofs.Kept.{Kept}
 use Rattle.run_frame.proofs.Fine.{Sub, Fine}
 use Rattle.run_frame.proofs.Held.{Runs, runs_kept, Held, Violated, violated_same}

@@ -1,5 +1,5 @@
 -- The statement `if`, forward and backward.
-use Rattle.std.proofs.Common.{◌≡◌, ℕ, ◌<◌, Bool, true, false, not, ◌||◌, if◌then◌else◌, List, [], ◌∷◌, ◌++◌, Some, ◌⊎◌, inl, inr, refl, sym, ◌∙◌, ap, subst, arith}
+use Rattle.std.proofs.Common.{◌≡◌, ℕ, Bool, true, false, not, ◌||◌, if◌then◌else◌, List, [], ◌∷◌, ◌++◌, Some, ◌⊎◌, inl, inr, refl, sym, ◌∙◌, ap, arith}
 use Rattle.std.specs.Prelude.{filter}
 use Rattle.std.specs.List.{AllByRecursion}
 use Rattle.luau_values.specs.Value.{Value}
@@ -7,20 +7,19 @@ use Rattle.luau_values.specs.Heap.{Heap}
 use Rattle.luau_values.specs.Stands.{Stands}
 use Rattle.luau_tree.specs.Tree.{Expr, the_stat, If, Arms, no_arms, more_arms, MaybeBlock, no_block, a_block, Block}
 use Rattle.luau_run.specs.SyntaxNode.{of_expr, of_block, of_stat, of_arms, of_maybe_block}
-use Rattle.luau_run.specs.Machine.{State, Gave, Part, ◌>>=◌, give}
+use Rattle.luau_run.specs.Machine.{State, Gave, ◌>>=◌, give}
 use Rattle.luau_run.specs.Layer.{Frame, Ending, Falls, Breaks, Continues, Returns, Layer, first}
 use Rattle.luau_run.specs.Operators.{is_true}
 use Rattle.luau_run.specs.Expressions.{value}
 use Rattle.luau_run.specs.Calls.{block}
 use Rattle.luau_run.specs.Statements.{branches, stat, execute}
-use Rattle.type_arena.specs.Term.{Term, never}
+use Rattle.type_arena.specs.Term.{never}
 use Rattle.type_normal.specs.Holds.{holds}
-use Rattle.type_normal.specs.Cut.{cut_up}
 use Rattle.type_normal.proofs.Public.{cut_up_above, never_none}
 use Rattle.report_rules.specs.Effects.{effects, stirs_arms, stirs_maybe, stirs_block, assigns_arms, assigns_maybe, assigns_block, declares_arms, declares_maybe, declares_block, returns_arms, returns_maybe, returns_block, breaks_arms, breaks_maybe, breaks_block}
 use Rattle.report_rules.specs.TypeMap.{TypeMap, refine, union_of, no_maps, joined}
 use Rattle.report_rules.specs.Forward.{after}
-use Rattle.report_rules.specs.After.{after_block, ends_of_arms, end_of_last, returned_block, returned_arms, returned_last}
+use Rattle.report_rules.specs.After.{ends_of_arms, end_of_last, returned_block, returned_arms, returned_last}
 use Rattle.report_rules.specs.Seen.{seen_expr, seen_stat, seen_block, seen_arms, seen_last}
 use Rattle.report_rules.specs.Context.{Context, branch}
 use Rattle.report_rules.specs.Statements.{stm, stm_block, stm_arms, stm_last}
@@ -35,10 +34,11 @@ use Rattle.run_frame.proofs.Kept.{Doer, MayMore, kept_same}
 use Rattle.run_frame.proofs.Fine.{HasValue, Fine, fine_same}
 use Rattle.run_frame.proofs.Held.{Runs, runs_kept, Reads, Held, held_same}
 use Rattle.run_frame.proofs.Parts.{Ends, Same, ends_so, ends_then, ends_more, ends_give, gave_then, gave_same}
-use Rattle.run_frame.proofs.Layers.{rules_of, seen_of, part_of, expr_of, stat_of, block_of, Inside, Placed, Marked, Leads, EndsBad, Trouble, Forward, Backward}
+use Rattle.run_frame.proofs.LooseContexts.{SparesAll}
+use Rattle.run_frame.proofs.Layers.{rules_of, seen_of, expr_of, stat_of, block_of, Inside, Placed, Marked, Leads, EndsBad, Trouble, Forward, Backward}
 use Rattle.run_frame.proofs.Readings.{sub_tail, sub_left, sub_right}
 use Rattle.run_frame.proofs.Lists.{inside_left, inside_right, FirstOf}
-use Rattle.run_frame.proofs.Blocks.{or_left, or_right, in_first, in_second, BlockLeads, block_forward, block_backward, same_end}
+use Rattle.run_frame.proofs.Blocks.{in_first, in_second, BlockLeads, block_forward, block_backward, same_end}
 use Rattle.run_frame.proofs.Statements.{ends_stat, stat_gave, trouble_same}
 use Rattle.run_frame.proofs.Forms.{value_gave, Evaluated, evaluated, After, value_forward, sub_one, sub_two, sub_three, inside_one, inside_two, inside_three}
 use Rattle.run_frame.proofs.ListsBack.{unchecked, operand_then}
@@ -277,24 +277,25 @@ arms_backward : (an : Analysis) (l : Layer) → Fit an → Forward an l → Back
     → Placed an frame (seen_arms (rules_of an frame) map arms (λ at_last. seen_last (rules_of an frame) at_last last))
     → Marked an frame (found_arms (rules_of an frame) (seen_of an frame) arms behind breaks_to continues_to)
     → Marked an frame (found_last (rules_of an frame) (seen_of an frame) last behind breaks_to continues_to)
+    → SparesAll (rules_of an frame) behind breaks_to continues_to
     → (ending : Ending) (t : State) → branches l frame arms last s ≡ Gave ending t
     → Trouble an frame (stm_arms (rules_of an frame) (seen_of an frame) arms (stm_last (rules_of an frame) (seen_of an frame) last behind breaks_to continues_to) behind breaks_to continues_to) s t
     → EndsBad an frame behind breaks_to continues_to ending t
 unfolding ◌>>=◌ give
-arms_backward an l fit fwd bwd w s frame map no_arms no_block behind breaks_to continues_to f r h inside inside_last placed marked marked_last ending t q (inl y) =
+arms_backward an l fit fwd bwd w s frame map no_arms no_block behind breaks_to continues_to f r h inside inside_last placed marked marked_last spares ending t q (inl y) =
     same_end an frame behind breaks_to continues_to Falls ending s t q y
-arms_backward an l fit fwd bwd w s frame map no_arms no_block behind breaks_to continues_to f r h inside inside_last placed marked marked_last ending t q (inr y) =
+arms_backward an l fit fwd bwd w s frame map no_arms no_block behind breaks_to continues_to f r h inside inside_last placed marked marked_last spares ending t q (inr y) =
     absurd (omega (arith, y, ap (λ (x : State). reached an frame.activation x.trace) (gave_same Falls ending s t q).1))
-arms_backward an l fit fwd bwd w s frame map no_arms (a_block body) behind breaks_to continues_to f r h inside inside_last placed marked marked_last ending t q y =
-    block_backward an l fwd bwd w s frame map body behind breaks_to continues_to f r h inside_last placed marked_last ending t q y
-arms_backward an l fit fwd bwd w s frame map (more_arms cond body rest) last behind breaks_to continues_to f r h inside inside_last placed marked marked_last ending t q y = by_cond
+arms_backward an l fit fwd bwd w s frame map no_arms (a_block body) behind breaks_to continues_to f r h inside inside_last placed marked marked_last spares ending t q y =
+    block_backward an l fwd bwd w s frame map body behind breaks_to continues_to f r h inside_last placed marked_last spares ending t q y
+arms_backward an l fit fwd bwd w s frame map (more_arms cond body rest) last behind breaks_to continues_to f r h inside inside_last placed marked marked_last spares ending t q y = by_cond
     (gave_then (value l frame cond s) (λ c. if is_true c then block l frame body else branches l frame rest last) ending t q)
     (λ z m g j held k x. arms_backward an l fit fwd bwd z m frame (refine (rules_of an frame) cond false (after (rules_of an frame) map cond)) rest last behind breaks_to continues_to g j held
     (inside_three frame (of_expr cond) (of_block body) (of_arms rest) (stats_of_expr cond) (stats_of_block body) (stats_of_arms rest) inside) inside_last
     (sub_three (seen_expr (rules_of an frame) map cond) (seen_block (rules_of an frame) (refine (rules_of an frame) cond true (after (rules_of an frame) map cond)) body)
     (seen_arms (rules_of an frame) (refine (rules_of an frame) cond false (after (rules_of an frame) map cond)) rest (λ at_last. seen_last (rules_of an frame) at_last last)) (seen_of an frame) placed)
     (sub_three (found (rules_of an frame) (seen_of an frame) [] cond) (found_block (rules_of an frame) (seen_of an frame) body behind breaks_to continues_to)
-    (found_arms (rules_of an frame) (seen_of an frame) rest behind breaks_to continues_to) (findings (rules_of an frame)) marked) marked_last ending t k x)
+    (found_arms (rules_of an frame) (seen_of an frame) rest behind breaks_to continues_to) (findings (rules_of an frame)) marked) marked_last spares ending t k x)
   where
     when_true : TypeMap
     when_true = refine (rules_of an frame) cond true (after (rules_of an frame) map cond)
@@ -339,7 +340,7 @@ arms_backward an l fit fwd bwd w s frame map (more_arms cond body rest) last beh
                     (sub_two (seen_expr (rules_of an frame) map cond) (seen_block (rules_of an frame) when_true body)
                     (seen_arms (rules_of an frame) when_false rest (λ at_last. seen_last (rules_of an frame) at_last last)) (seen_of an frame) placed)
                     (sub_two (found (rules_of an frame) (seen_of an frame) [] cond) (found_block (rules_of an frame) (seen_of an frame) body behind breaks_to continues_to)
-                    (found_arms (rules_of an frame) (seen_of an frame) rest behind breaks_to continues_to) (findings (rules_of an frame)) marked) ending t n x
+                    (found_arms (rules_of an frame) (seen_of an frame) rest behind breaks_to continues_to) (findings (rules_of an frame)) marked) spares ending t n x
                 by_truth false e n x = again o.world m o.fine o.runs (held_way an frame map cond xs m false (ap is_true (sym same) ∙ e) o.gives o.held) n x
 
                 chosen_trouble : (b : Bool) → is_true c ≡ b → Trouble an frame (branch (rules_of an frame) cond in_body in_rest) m t → Trouble an frame (if b then in_body else in_rest) m t
@@ -356,9 +357,9 @@ pub if_backward : (an : Analysis) (l : Layer) → Fit an → Forward an l → Ba
     → Held an frame map s → Inside frame (of_stat (the_stat span (If arms last))) (stats_of (the_stat span (If arms last)))
     → Placed an frame (seen_stat (rules_of an frame) map (the_stat span (If arms last)))
     → Marked an frame (found_stat (rules_of an frame) (seen_of an frame) (the_stat span (If arms last)) behind breaks_to continues_to)
-    → (ending : Ending) (t : State) → stat an.program l frame (the_stat span (If arms last)) s ≡ Gave ending t
+    → SparesAll (rules_of an frame) behind breaks_to continues_to → (ending : Ending) (t : State) → stat an.program l frame (the_stat span (If arms last)) s ≡ Gave ending t
     → Trouble an frame (stm (rules_of an frame) (seen_of an frame) (the_stat span (If arms last)) behind breaks_to continues_to) s t → EndsBad an frame behind breaks_to continues_to ending t
-if_backward an l fit fwd bwd w s frame map span arms last behind breaks_to continues_to f r h inside placed marked ending t q y =
+if_backward an l fit fwd bwd w s frame map span arms last behind breaks_to continues_to f r h inside placed marked spares ending t q y =
     by_step (stat_gave an.program l frame span (If arms last) s ending t q)
   where
     by_step : (m : State) × Same s m × (execute an.program l frame (If arms last) m ≡ Gave ending t) → EndsBad an frame behind breaks_to continues_to ending t
@@ -369,5 +370,5 @@ if_backward an l fit fwd bwd w s frame map span arms last behind breaks_to conti
         (sub_left (found_arms (rules_of an frame) (seen_of an frame) arms behind breaks_to continues_to) (found_last (rules_of an frame) (seen_of an frame) last behind breaks_to continues_to)
         (findings (rules_of an frame)) marked)
         (sub_right (found_arms (rules_of an frame) (seen_of an frame) arms behind breaks_to continues_to) (found_last (rules_of an frame) (seen_of an frame) last behind breaks_to continues_to)
-        (findings (rules_of an frame)) marked) ending t p.2
+        (findings (rules_of an frame)) marked) spares ending t p.2
         (trouble_same an frame (stm (rules_of an frame) (seen_of an frame) (the_stat span (If arms last)) behind breaks_to continues_to) s p.0 t p.1 y)

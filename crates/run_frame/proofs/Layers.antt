@@ -42,6 +42,7 @@ use Rattle.run_frame.proofs.Kept.{Doer, nobody}
 use Rattle.run_frame.proofs.Fine.{Sub, Fine}
 use Rattle.run_frame.proofs.Held.{Runs, Reads, Held, Violated}
 use Rattle.run_frame.proofs.Parts.{Ends}
+use Rattle.run_frame.proofs.LooseContexts.{SparesLoose, SparesAll}
 
 -- ---- who acts
 
@@ -305,11 +306,13 @@ pub record Backward (an : Analysis) (l : Layer) : Type 0 where
   pub stat : (w : World) (s : State) (frame : Frame) (map : TypeMap) (st : Stat) (behind breaks_to continues_to : Context) → Fine an w s → Runs an w s frame
       → Held an frame map s → Inside frame (of_stat st) (stats_of st) → Placed an frame (seen_stat (rules_of an frame) map st)
       → Marked an frame (found_stat (rules_of an frame) (seen_of an frame) st behind breaks_to continues_to)
+      → SparesAll (rules_of an frame) behind breaks_to continues_to
       → (ending : Ending) (t : State) → l.stat frame st s ≡ Gave ending t
       → Trouble an frame (stm (rules_of an frame) (seen_of an frame) st behind breaks_to continues_to) s t → EndsBad an frame behind breaks_to continues_to ending t
   pub turns : (w : World) (s : State) (frame : Frame) (map : TypeMap) (loop : Loop) (behind kept : Context) → Fine an w s → Runs an w s frame → Held an frame map s
       → Steady (rules_of an frame) loop map → SteadyContext (rules_of an frame) loop kept → IsBelow kept behind
       → Inside frame (nodes_of_loop loop) (stats_of_loop loop) → Placed an frame (seen_in_loop (rules_of an frame) map loop)
-      → Marked an frame (found_in_loop (rules_of an frame) (seen_of an frame) behind kept loop) → LoopStands s.store.heap loop
+      → Marked an frame (found_in_loop (rules_of an frame) (seen_of an frame) behind kept loop)
+      → SparesLoose (rules_of an frame) behind → SparesLoose (rules_of an frame) kept → LoopStands s.store.heap loop
       → (ending : Ending) (t : State) → l.turns frame loop s ≡ Gave ending t
       → Trouble an frame (entry_context (rules_of an frame) (seen_of an frame) behind kept loop) s t ⊎ Violated an frame kept s → EndsBad an frame behind none none ending t

@@ -37,3 +37,6 @@ pub mod ChoiceForms
 pub mod IfForms
 pub mod PathForms
 pub mod PartForms
+pub mod Wanted
+pub mod LooseContexts
+pub mod LocalBack

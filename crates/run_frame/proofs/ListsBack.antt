@@ -1,6 +1,5 @@
 -- Operands that are checked by some set, and lists of them, backward.
-use Rattle.std.proofs.Common.{◌≡◌, ◌≢◌, ℕ, ◌+◌, ◌<◌, Bool, true, false, not, ◌||◌, List, [], ◌∷◌, ◌++◌, ◌⊎◌, inl, inr, refl, sym, ◌∙◌, ap, subst, arith, drop}
-use Rattle.std.specs.List.{AllByRecursion}
+use Rattle.std.proofs.Common.{◌≡◌, ◌≢◌, ℕ, ◌+◌, ◌<◌, Bool, true, false, not, List, [], ◌∷◌, ◌++◌, ◌⊎◌, inl, inr, refl, sym, ◌∙◌, ap, subst, arith, drop}
 use Rattle.luau_values.specs.Value.{Value}
 use Rattle.luau_values.specs.Heap.{Heap}
 use Rattle.luau_values.specs.Stands.{Stands}
@@ -20,7 +19,7 @@ use Rattle.subtype_check.proofs.Public.{below_includes}
 use Rattle.report_rules.specs.Effects.{effects, any_effects}
 use Rattle.report_rules.specs.TypeMap.{TypeMap}
 use Rattle.report_rules.specs.Forward.{typ, after}
-use Rattle.report_rules.specs.Seen.{Seen, seen_expr, seen_list}
+use Rattle.report_rules.specs.Seen.{seen_expr, seen_list}
 use Rattle.report_rules.specs.Context.{Context, followed}
 use Rattle.report_rules.specs.Checks.{ReportKind, type_of, check, left}
 use Rattle.report_rules.specs.Errors.{ev}
@@ -33,9 +32,9 @@ use Rattle.run_frame.proofs.World.{World}
 use Rattle.run_frame.proofs.Counts.{is_reported, reached, one_if}
 use Rattle.run_frame.proofs.Kept.{Kept}
 use Rattle.run_frame.proofs.Fine.{Fine}
-use Rattle.run_frame.proofs.Held.{Runs, runs_kept, Held, Violated, type_kept}
-use Rattle.run_frame.proofs.Parts.{Ends, ends_gave, gave_then, gave_same}
-use Rattle.run_frame.proofs.Layers.{rules_of, seen_of, part_of, expr_of, Inside, Placed, Marked, Gives, Pays, Trouble, Forward, Backward}
+use Rattle.run_frame.proofs.Held.{Runs, Held, Violated, type_kept}
+use Rattle.run_frame.proofs.Parts.{ends_gave, gave_then, gave_same}
+use Rattle.run_frame.proofs.Layers.{rules_of, seen_of, part_of, Inside, Placed, Marked, Gives, Pays, Trouble, Forward, Backward}
 use Rattle.run_frame.proofs.Readings.{contains_head, sub_left, sub_right}
 use Rattle.run_frame.proofs.Passing.{violated_followed}
 use Rattle.run_frame.proofs.Marks.{mark_tells, typed_at, checked_below}
@@ -180,7 +179,7 @@ lasts_past an w v s t frame rest x set f r k there (inr e) h =
     type_kept an (part_of frame (any_effects (rules_of an frame) rest)) w v s t frame f r k x set (inr e) there h
 
 -- the first of several, and the rest
-first_of_list : (l : Layer) (frame : Frame) (e next : Expr) (rest : Exprs) (s : State) (vs : List Value) (t : State) → all_values l frame (more_exprs e (more_exprs next rest)) s ≡ Gave vs t
+pub first_of_list : (l : Layer) (frame : Frame) (e next : Expr) (rest : Exprs) (s : State) (vs : List Value) (t : State) → all_values l frame (more_exprs e (more_exprs next rest)) s ≡ Gave vs t
     → (one : List Value) × (m : State) × (others : List Value) × (l.values frame e s ≡ Gave one m) × (all_values l frame (more_exprs next rest) m ≡ Gave others t) × (vs ≡ first one ∷ others)
 unfolding ◌>>=◌ give
 first_of_list l frame e next rest s vs t q = by_value (gave_then (value l frame e s) (λ v. ◌>>=◌ (all_values l frame (more_exprs next rest)) (λ values. give (v ∷ values))) vs t q)

@@ -29,6 +29,7 @@ use Rattle.run_frame.proofs.Kept.{MayMore, kept_same}
 use Rattle.run_frame.proofs.Fine.{Fine, fine_same}
 use Rattle.run_frame.proofs.Held.{Runs, runs_kept, Held, held_same}
 use Rattle.run_frame.proofs.Parts.{Ends, Same, ends_then, ends_so, ends_more, ends_give}
+use Rattle.run_frame.proofs.LooseContexts.{SparesAll}
 use Rattle.run_frame.proofs.Layers.{rules_of, seen_of, part_of, stat_of, block_of, Inside, Placed, Marked, Leads, EndsBad, Trouble, Forward, Backward}
 use Rattle.run_frame.proofs.Readings.{contains_head, sub_tail, sub_right, all_contained, fits, reads_same}
 use Rattle.run_frame.proofs.Passing.{held_after}
@@ -40,7 +41,7 @@ use Rattle.run_frame.proofs.Statements.{ends_stat, stat_gave, trouble_same}
 -- ---- `local`
 
 -- the locals that the rules read are those that the run reads
-locals_same : (rules : Rules) (frame : Frame) (binds : Binds) → rules.reading ≡ frame.reading → locals_of_binds rules binds ≡ run_locals frame binds
+pub locals_same : (rules : Rules) (frame : Frame) (binds : Binds) → rules.reading ≡ frame.reading → locals_of_binds rules binds ≡ run_locals frame binds
 locals_same rules frame no_binds e = refl
 locals_same rules frame (more_binds (the_bind name span typ) rest) e =
     ap (λ (x : ReadModule). x.local_at span.start ∷ locals_of_binds rules rest) e ∙ ap (λ (xs : List ℕ). frame.reading.local_at span.start ∷ xs) (locals_same rules frame rest e)
@@ -143,14 +144,14 @@ pub do_backward : (an : Analysis) (l : Layer) → Forward an l → Backward an l
     → Held an frame map s → Inside frame (of_stat (the_stat span (Do body))) (stats_of (the_stat span (Do body)))
     → Placed an frame (seen_stat (rules_of an frame) map (the_stat span (Do body)))
     → Marked an frame (found_stat (rules_of an frame) (seen_of an frame) (the_stat span (Do body)) behind breaks_to continues_to)
-    → (ending : Ending) (t : State) → stat an.program l frame (the_stat span (Do body)) s ≡ Gave ending t
+    → SparesAll (rules_of an frame) behind breaks_to continues_to → (ending : Ending) (t : State) → stat an.program l frame (the_stat span (Do body)) s ≡ Gave ending t
     → Trouble an frame (stm (rules_of an frame) (seen_of an frame) (the_stat span (Do body)) behind breaks_to continues_to) s t → EndsBad an frame behind breaks_to continues_to ending t
-do_backward an l fwd bwd w s frame map span body behind breaks_to continues_to f r h inside placed marked ending t q y = by_step (stat_gave an.program l frame span (Do body) s ending t q)
+do_backward an l fwd bwd w s frame map span body behind breaks_to continues_to f r h inside placed marked spares ending t q y = by_step (stat_gave an.program l frame span (Do body) s ending t q)
   where
     by_step : (m : State) × Same s m × (execute an.program l frame (Do body) m ≡ Gave ending t) → EndsBad an frame behind breaks_to continues_to ending t
     by_step p = block_backward an l fwd bwd w p.0 frame map body behind breaks_to continues_to (fine_same an w s p.0 p.1.0 p.1.1 f)
         (runs_kept an (block_of an frame body) w w s p.0 frame (kept_same an (block_of an frame body) w s p.0 p.1.0 p.1.1) r) (held_same an s p.0 frame map p.1 h)
-        (record { nodes = inside.nodes; stats = sub_tail (the_stat span (Do body)) (stats_of_block body) (stats_of_block frame.reading.block) inside.stats }) placed marked ending t p.2
+        (record { nodes = inside.nodes; stats = sub_tail (the_stat span (Do body)) (stats_of_block body) (stats_of_block frame.reading.block) inside.stats }) placed marked spares ending t p.2
         (trouble_same an frame (stm (rules_of an frame) (seen_of an frame) (the_stat span (Do body)) behind breaks_to continues_to) s p.0 t p.1 y)
 
 -- ---- `break` and `continue`

@@ -1,5 +1,5 @@
 -- Contexts claim nothing of loose locals.
-use Rattle.std.proofs.Common.{◌≡◌, ℕ, suc, Bool, true, false, not, ◌==◌, ◌&&◌, ◌||◌, if◌then◌else◌, List, [], ◌∷◌, Option, Some, None, ◌⊎◌, inl, inr, refl, sym, ◌∙◌, ap, subst}
+use Rattle.std.proofs.Common.{◌≡◌, ℕ, suc, Bool, true, false, not, ◌==◌, ◌&&◌, ◌||◌, if◌then◌else◌, List, [], ◌∷◌, Option, Some, None, ◌⊎◌, inl, inr, refl, sym, ◌∙◌, subst}
 use Rattle.std.proofs.lemmas.Bool.{eqb-true}
 use Rattle.std.specs.List.{list_any}
 use Rattle.luau_values.specs.Value.{Value}
@@ -11,8 +11,7 @@ use Rattle.luau_run.specs.ReadModule.{Use, UseLocal, UseBuiltin, UseLibrary, Use
 use Rattle.luau_run.specs.ReadFolder.{local_of}
 use Rattle.type_arena.specs.Term.{Term, never}
 use Rattle.type_normal.specs.Holds.{holds}
-use Rattle.type_normal.specs.Operations.{union, meet}
-use Rattle.type_normal.specs.Kinds.{unknown}
+use Rattle.type_normal.specs.Operations.{union}
 use Rattle.type_normal.specs.Cut.{cut_down}
 use Rattle.type_normal.proofs.Public.{never_none, union_holds, cut_down_below, strip_below, strip_at_below, unknown_all}
 use Rattle.report_rules.specs.Rules.{TypedBuiltin, Rules, loose, local_named}
@@ -21,13 +20,17 @@ use Rattle.report_rules.specs.Guard.{guard}
 use Rattle.report_rules.specs.Seen.{Seen}
 use Rattle.report_rules.specs.Context.{Context, none, only_for, join, branch, stripped, stripped_at, without, pass, followed}
 use Rattle.report_rules.specs.Errors.{unless_builtin, name_context, ev, ev_in, ev_parts, ev_args, ev_choices, ev_items, ev_item}
-use Rattle.report_rules.specs.Statements.{Wanted, first_wanted, rest_wanted, ev_values, before_write, before_writes, ev_base, ev_target, ev_targets, assign_context, ev_compound_base, ev_added, ev_compound, compound_context, function_context, keep, while_context, until_context, ev_bound, ev_maybe_bound, ev_iteration, stm, stm_in, stm_block, stm_arms, stm_last}
+use Rattle.report_rules.specs.Statements.{Wanted, rest_wanted, ev_values, before_write, before_writes, ev_base, ev_target, ev_targets, ev_added, ev_compound, function_context, keep, until_context, ev_bound, ev_maybe_bound, ev_iteration, stm, stm_in, stm_block, stm_arms, stm_last}
 use Rattle.report_rules.proofs.ContextFacts.{branch_holds}
 use Rattle.run_frame.proofs.Guards.{guard_loose}
 
 -- a context has no value for a local that is loose
 abbrev pub SparesLoose : Rules → Context → Type 0
 SparesLoose rules context = (x : ℕ) → loose rules x ≡ true → (h : Heap) (v : Value) → holds h v (context x) ≡ true → ⊥
+
+-- nor has one of three
+abbrev pub SparesAll : Rules → (behind breaks_to continues_to : Context) → Type 0
+SparesAll rules behind breaks_to continues_to = SparesLoose rules behind × SparesLoose rules breaks_to × SparesLoose rules continues_to
 
 clash : (b : Bool) → b ≡ true → b ≡ false → ⊥
 clash b p q = cc
@@ -84,17 +87,14 @@ spare_without rules locals a p x l h v e = by_test (list_any (λ other. other ==
     by_test true k = in_never h v k
     by_test false k = p x l h v k
 
+left_of : (y z : Bool) → y && z ≡ true → y ≡ true
+left_of true z k = refl
+left_of false z k = cc
+
 spare_branch : (rules : Rules) (cond : Expr) (a b : Context) → SparesLoose rules a → SparesLoose rules b → SparesLoose rules (branch rules cond a b)
 spare_branch rules cond a b p q x l h v e = by_side (holds h v (a x)) (holds h v (guard rules cond true x)) refl
-    (subst (λ (type : Term). holds h v type ≡ true) (sym (guard_loose rules cond true x l)) (unknown_all h v)) (first_of (branch_holds rules cond h v a b x e))
+    (subst (λ (type : Term). holds h v type ≡ true) (sym (guard_loose rules cond true x l)) (unknown_all h v)) (left_of (holds h v (a x) || not (holds h v (guard rules cond true x))) (holds h v (b x) || not (holds h v (guard rules cond false x))) (branch_holds rules cond h v a b x e))
   where
-    first_of : {c : Bool} → (holds h v (a x) || not (holds h v (guard rules cond true x))) && c ≡ true → holds h v (a x) || not (holds h v (guard rules cond true x)) ≡ true
-    first_of {c} k = left (holds h v (a x) || not (holds h v (guard rules cond true x))) c k
-      where
-        left : (y z : Bool) → y && z ≡ true → y ≡ true
-        left true z k = refl
-        left false z k = cc
-
     by_side : (y z : Bool) → holds h v (a x) ≡ y → z ≡ true → y || not z ≡ true → ⊥
     by_side true z k g c = p x l h v k
     by_side false true k g c = cc
@@ -219,6 +219,10 @@ spare_iteration rules seen (more_exprs e rest) behind p = spare_followed rules _
 
 -- ---- statements
 
+spare_until : (rules : Rules) (seen : List Seen) (span : _) (body : Block) (cond : Expr) (behind : Context) → SparesLoose rules behind → SparesLoose rules (until_context rules seen span body cond behind)
+spare_until rules seen span body cond behind p = spare_followed rules (ev rules seen cond never) (effects rules cond) (keep rules (the_stat span (Repeat body cond)) body behind)
+    (spare_ev rules seen cond never) (spare_keep rules (the_stat span (Repeat body cond)) body behind p)
+
 mutual
   pub spare_stm : (rules : Rules) (seen : List Seen) (st : Stat) (behind breaks continues : Context) → SparesLoose rules behind → SparesLoose rules breaks → SparesLoose rules continues
       → SparesLoose rules (stm rules seen st behind breaks continues)
@@ -253,10 +257,6 @@ mutual
   spare_kind rules seen span (GenFor binds values body) behind breaks continues p q r =
       spare_iteration rules seen values (keep rules (the_stat span (GenFor binds values body)) body behind) (spare_keep rules (the_stat span (GenFor binds values body)) body behind p)
   spare_kind rules seen span _ behind breaks continues p q r = p
-
-  spare_until : (rules : Rules) (seen : List Seen) (span : _) (body : Block) (cond : Expr) (behind : Context) → SparesLoose rules behind → SparesLoose rules (until_context rules seen span body cond behind)
-  spare_until rules seen span body cond behind p = spare_followed rules (ev rules seen cond never) (effects rules cond) (keep rules (the_stat span (Repeat body cond)) body behind)
-      (spare_ev rules seen cond never) (spare_keep rules (the_stat span (Repeat body cond)) body behind p)
 
   pub spare_block : (rules : Rules) (seen : List Seen) (b : Block) (behind breaks continues : Context) → SparesLoose rules behind → SparesLoose rules breaks → SparesLoose rules continues
       → SparesLoose rules (stm_block rules seen b behind breaks continues)

@@ -1,29 +1,29 @@
 -- Unary and binary operators as expressions, forward and backward; `and` and `or` aside.
-use Rattle.std.proofs.Common.{◌≡◌, ℕ, Bool, true, false, not, ◌||◌, if◌then◌else◌, List, [], ◌∷◌, ◌++◌, Option, Some, None, ◌⊎◌, inl, inr, refl, sym, ◌∙◌, ap, subst, arith, slice_get}
-use Rattle.luau_values.specs.Value.{Value, Truth}
+use Rattle.std.proofs.Common.{◌≡◌, ℕ, Bool, true, false, not, ◌||◌, if◌then◌else◌, List, [], ◌∷◌, ◌++◌, Option, Some, None, ◌⊎◌, inl, inr, refl, sym, ◌∙◌, ap, subst, slice_get}
+use Rattle.luau_values.specs.Value.{Value}
 use Rattle.luau_values.specs.Heap.{Heap}
 use Rattle.luau_values.specs.Stands.{Stands}
 use Rattle.luau_tree.specs.declared.names.UnOp.{UnOp}
 use Rattle.luau_tree.specs.declared.names.UnOp.TheVariants.{Minus, Not, Length}
 use Rattle.luau_tree.specs.declared.names.BinOp.{BinOp}
-use Rattle.luau_tree.specs.declared.names.BinOp.TheVariants.{Or, And, Less, Greater, LessEqual, GreaterEqual, NotEqual, Equal, Concat, Add, Sub, Mul, Div, FloorDiv, Mod, Pow}
+use Rattle.luau_tree.specs.declared.names.BinOp.TheVariants.{Or, And, NotEqual, Equal}
 use Rattle.luau_tree.specs.declared.names.Op.TheVariants.{Unary as UnaryOp, Binary as BinaryOp}
 use Rattle.luau_tree.specs.Tree.{Expr, the_expr, ExprKind, NilExpr, TrueExpr, FalseExpr, NumberExpr, StrExpr, Unary, Binary}
 use Rattle.luau_run.specs.Program.{Program}
 use Rattle.luau_run.specs.ReadModule.{Use}
-use Rattle.luau_run.specs.SyntaxNode.{AnExpr, of_expr, of_expr_kind, of_block}
-use Rattle.luau_run.specs.Machine.{Store, State, Gave, Part, go_on, ◌>>=◌, give}
+use Rattle.luau_run.specs.SyntaxNode.{AnExpr, of_expr, of_block}
+use Rattle.luau_run.specs.Machine.{Store, State, Gave, Part, ◌>>=◌}
 use Rattle.luau_run.specs.Layer.{Frame, Layer, first}
-use Rattle.luau_run.specs.Operators.{is_true, sort, binary, unary}
-use Rattle.luau_run.specs.Expressions.{cell_of, value, one, values, evaluate, binary_rest}
-use Rattle.type_arena.specs.Term.{Term, never}
+use Rattle.luau_run.specs.Operators.{is_true, binary, unary}
+use Rattle.luau_run.specs.Expressions.{cell_of, value, one, values, binary_rest}
+use Rattle.type_arena.specs.Term.{Term}
 use Rattle.type_normal.specs.Holds.{holds}
 use Rattle.type_normal.specs.Kinds.{unknown}
 use Rattle.report_rules.specs.Rules.{Rules, loose, local_named}
 use Rattle.report_rules.specs.Effects.{effects}
-use Rattle.report_rules.specs.Guard.{guard, guard_of_kind, joined_guard, equality, said, firm_only, firm_local, kind_subject}
+use Rattle.report_rules.specs.Guard.{guard, guard_of_kind, joined_guard, equality, said, firm_only, kind_subject}
 use Rattle.report_rules.specs.TypeMap.{TypeMap}
-use Rattle.report_rules.specs.Forward.{typ, type_of_kind, unary_type, binary_type, builtin_or, after}
+use Rattle.report_rules.specs.Forward.{typ, type_of_kind, binary_type, builtin_or, after}
 use Rattle.report_rules.specs.Seen.{Seen, seen_expr, seen_in}
 use Rattle.report_rules.specs.Context.{Context, followed}
 use Rattle.report_rules.specs.Checks.{ReportKind, Operand, type_of, operand_set, unary_set}
@@ -36,19 +36,19 @@ use Rattle.run_frame.specs.Fit.{Fit}
 use Rattle.run_frame.proofs.World.{World}
 use Rattle.run_frame.proofs.Counts.{reached}
 use Rattle.run_frame.proofs.Kept.{Doer, Kept}
-use Rattle.run_frame.proofs.Fine.{Fine, fine_same}
+use Rattle.run_frame.proofs.Fine.{Fine}
 use Rattle.run_frame.proofs.Held.{Runs, runs_kept, Reads, Held, held_store, Violated, reads_after}
 use Rattle.run_frame.proofs.Parts.{Ends, Same, ends_so, ends_then, ends_more, ends_gave, gave_then}
-use Rattle.run_frame.proofs.Layers.{rules_of, seen_of, part_of, expr_of, Inside, Placed, Marked, IsKindName, Shows, Gives, Pays, Trouble, Forward, Backward}
+use Rattle.run_frame.proofs.Layers.{rules_of, seen_of, part_of, expr_of, Inside, Placed, Marked, IsKindName, Shows, Gives, Pays, Forward, Backward}
 use Rattle.run_frame.proofs.Readings.{sub_tail, sub_left, sub_right}
 use Rattle.run_frame.proofs.Names.{ends_one}
 use Rattle.run_frame.proofs.Lists.{may_first, may_second, inside_left, inside_right, FirstOf}
 use Rattle.run_frame.proofs.Passing.{violated_followed}
 use Rattle.run_frame.proofs.Marks.{typed_at}
 use Rattle.run_frame.proofs.Guards.{IsFirm, firm_subject}
-use Rattle.run_frame.proofs.Forms.{one_gave, value_gave, Evaluated, evaluated, IsForm, form_use, form_read, form_forward, OneGives, one_gives, FormPays, form_backward, After, value_forward, first_stands}
+use Rattle.run_frame.proofs.Forms.{one_gave, value_gave, Evaluated, evaluated, IsForm, form_read, form_forward, OneGives, one_gives, FormPays, form_backward, After, value_forward}
 use Rattle.run_frame.proofs.ListsBack.{Check, by_set, operand_quiet, operand_safe}
-use Rattle.run_frame.proofs.Operators.{IsEqual, OpGives, result_type, is_sure, ShowsEqual, BinGives, ends_binary, unary_sure, unary_result, ShowsNot, UnGives, ends_unary, binary_typed, unary_typed, left_fails, right_fails, unary_fails}
+use Rattle.run_frame.proofs.Operators.{ShowsEqual, BinGives, ends_binary, ShowsNot, UnGives, ends_unary, binary_typed, unary_typed, left_fails, right_fails, unary_fails}
 use Rattle.run_frame.proofs.Equality.{IsConstant, constant_is, IsSubject, IsCompared, equality_shown}
 
 -- ---- unary operators
@@ -364,19 +364,18 @@ sides_gave program l frame op left right m vs u both q = by_one (one_gave (◌>>
             by_right : (b : Value) × (n : State) × (value l frame right y.1 ≡ Gave b n) × (binary program op y.0 b n ≡ Gave p.0 u) → Parts
             by_right x =
                 let one_left : (xs : List Value) × (l.values frame left m ≡ Gave xs y.1) × (y.0 ≡ first xs) = value_gave l frame left m y.0 y.1 y.2 in
-                let one_right : (ys : List Value) × (l.values frame right y.1 ≡ Gave ys x.1) × (x.0 ≡ first ys) = value_gave l frame right y.1 x.0 x.1 x.2 in
-                  (
-                    one_left.0,
-                    y.1,
-                    one_right.0,
-                    x.1,
-                    p.0,
-                    one_left.1,
-                    one_right.1,
-                    subst (λ (b : Value). binary program op (first one_left.0) b x.1 ≡ Gave p.0 u) one_right.2
-                        (subst (λ (a : Value). binary program op a x.0 x.1 ≡ Gave p.0 u) one_left.2 x.3),
-                    p.2,
-                  )
+                let one_right : (ys : List Value) × (l.values frame right y.1 ≡ Gave ys x.1) × (x.0 ≡ first ys) = value_gave l frame right y.1 x.0 x.1 x.2 in (
+                  one_left.0,
+                  y.1,
+                  one_right.0,
+                  x.1,
+                  p.0,
+                  one_left.1,
+                  one_right.1,
+                  subst (λ (b : Value). binary program op (first one_left.0) b x.1 ≡ Gave p.0 u) one_right.2
+                      (subst (λ (a : Value). binary program op a x.0 x.1 ≡ Gave p.0 u) one_left.2 x.3),
+                  p.2,
+                )
 
 pub binary_backward : (an : Analysis) (l : Layer) → Fit an → Forward an l → Backward an l → (w : World) (s : State) (frame : Frame) (map : TypeMap) (id : ℕ) (span : _) (op : BinOp)
     (left right : Expr) (around : List ReportKind) → IsBoth op → Fine an w s → Runs an w s frame → Held an frame map s

@@ -1,5 +1,5 @@
 -- Operators: what they give, and on which values they fail for certain.
-use Rattle.std.proofs.Common.{◌≡◌, ℕ, Bool, true, false, not, ◌==◌, ◌&&◌, if◌then◌else◌, List, [], ◌∷◌, Option, Some, None, refl, sym, ◌∙◌, ap, subst}
+use Rattle.std.proofs.Common.{◌≡◌, ℕ, Bool, true, false, not, ◌==◌, ◌&&◌, if◌then◌else◌, List, refl, sym, subst}
 use Rattle.std.specs.Bool.{beq}
 use Rattle.std.specs.Str.{bytes_eq}
 use Rattle.luau_values.specs.Value.{Value, Nil, Truth, Num, Str, Tab, Lit, Builtin, Other}
@@ -8,14 +8,14 @@ use Rattle.luau_values.specs.Stands.{Stands}
 use Rattle.luau_tree.specs.declared.names.UnOp.{UnOp}
 use Rattle.luau_tree.specs.declared.names.UnOp.TheVariants.{Minus, Not, Length}
 use Rattle.luau_tree.specs.declared.names.BinOp.{BinOp}
-use Rattle.luau_tree.specs.declared.names.BinOp.TheVariants.{Or, And, Less, Greater, LessEqual, GreaterEqual, NotEqual, Equal, Concat, Add, Sub, Mul, Div, FloorDiv, Mod, Pow}
+use Rattle.luau_tree.specs.declared.names.BinOp.TheVariants.{Or, And, Less, Greater, LessEqual, GreaterEqual, NotEqual, Equal, Concat}
 use Rattle.luau_run.specs.Program.{Program}
-use Rattle.luau_run.specs.Machine.{Answer, One, Says as SaysAnswer, Fail, Turn, Stop, Does, Done, Fits, Store, State, Ran, Gave, Failed, ◌>>=◌, give, fail, look, ask}
-use Rattle.luau_run.specs.Answers.{a_value, value_or_fail, a_number, number_or_fail, a_string, a_truth, truth_or_fail}
+use Rattle.luau_run.specs.Machine.{Answer, One, Fail, Fits, Store, State, Ran, Gave, ◌>>=◌, give, fail, look, ask}
+use Rattle.luau_run.specs.Answers.{value_or_fail, a_number, number_or_fail, a_string, a_truth, truth_or_fail}
 use Rattle.luau_run.specs.Operators.{is_true, Sort, NumberSort, StringSort, OtherSort, WrongSort, sort, anything, arithmetic_of, joined, ordered, equal, binary, negated, length_of, unary}
 use Rattle.type_arena.specs.Term.{Term, never}
 use Rattle.type_normal.specs.Holds.{holds}
-use Rattle.type_normal.specs.Kinds.{unknown, boolean_type, number_type, string_type}
+use Rattle.type_normal.specs.Kinds.{boolean_type, number_type, string_type}
 use Rattle.type_normal.specs.Failing.{arith_fail, length_fail, order_fail_with_number, order_fail_with_string}
 use Rattle.type_normal.proofs.Public.{never_none, unknown_all}
 use Rattle.subtype_check.specs.Below.{below}

@@ -1,10 +1,10 @@
 -- Interpolations, forward and backward: parts that are evaluated in order, whatever they give.
-use Rattle.std.proofs.Common.{◌≡◌, ℕ, Bool, true, false, ◌||◌, List, [], ◌∷◌, ◌++◌, ◌⊎◌, inl, inr, refl, sym, ◌∙◌, ap, subst}
+use Rattle.std.proofs.Common.{◌≡◌, ℕ, true, false, ◌||◌, List, [], ◌∷◌, ◌⊎◌, inl, inr, refl, sym, ◌∙◌, ap, subst}
 use Rattle.luau_values.specs.Value.{Value}
 use Rattle.luau_values.specs.Stands.{Stands}
-use Rattle.luau_tree.specs.Tree.{Expr, the_expr, Exprs, no_exprs, more_exprs, Interp}
+use Rattle.luau_tree.specs.Tree.{the_expr, Exprs, no_exprs, more_exprs, Interp}
 use Rattle.luau_run.specs.SyntaxNode.{AnExpr, of_expr, of_exprs, of_block}
-use Rattle.luau_run.specs.Machine.{Store, State, Gave, Part, ◌>>=◌, give, ask}
+use Rattle.luau_run.specs.Machine.{Store, State, Gave, ◌>>=◌, give, ask}
 use Rattle.luau_run.specs.Answers.{a_string}
 use Rattle.luau_run.specs.Layer.{Frame, Layer, first}
 use Rattle.luau_run.specs.Expressions.{value, one, values, each_value}

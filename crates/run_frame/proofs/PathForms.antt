@@ -4,10 +4,9 @@ use Rattle.luau_values.specs.Value.{Value, Builtin}
 use Rattle.luau_tree.specs.Tree.{Expr, the_expr, ExprKind, Index, At}
 use Rattle.luau_tree.specs.declared.names.Place.TheVariants.{Expr as ExprPlace}
 use Rattle.luau_run.specs.ReadModule.{Use, UseBuiltin, ReadModule}
-use Rattle.luau_run.specs.Machine.{State, Ran, Gave, give}
+use Rattle.luau_run.specs.Machine.{State, Gave, give}
 use Rattle.luau_run.specs.Layer.{Frame, Layer}
 use Rattle.luau_run.specs.Expressions.{values, evaluate_or_builtin}
-use Rattle.type_arena.specs.Term.{Term}
 use Rattle.type_normal.specs.Holds.{holds}
 use Rattle.type_normal.specs.Kinds.{unknown}
 use Rattle.report_rules.specs.Rules.{Rules, fixed_use, local_named}

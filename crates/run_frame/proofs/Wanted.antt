@@ -1,5 +1,5 @@
 -- Values that are checked by what is wanted at their positions, backward; and with them `return`.
-use Rattle.std.proofs.Common.{◌≡◌, ◌≢◌, Bool, true, false, List, [], ◌∷◌, ◌++◌, Option, Some, None, ◌⊎◌, inl, inr, refl, sym, ◌∙◌, ap, subst, drop}
+use Rattle.std.proofs.Common.{◌≡◌, ◌≢◌, Bool, true, false, List, [], ◌∷◌, ◌++◌, Option, Some, None, ◌⊎◌, inl, inr, refl, sym, ap, subst, drop}
 use Rattle.std.specs.List.{AllByRecursion}
 use Rattle.luau_values.specs.Value.{Value}
 use Rattle.luau_values.specs.Heap.{Heap}
@@ -18,7 +18,7 @@ use Rattle.report_rules.specs.Effects.{effects, any_effects}
 use Rattle.report_rules.specs.TypeMap.{TypeMap}
 use Rattle.report_rules.specs.Seen.{seen_stat, seen_list}
 use Rattle.report_rules.specs.Context.{Context, none, followed}
-use Rattle.report_rules.specs.Checks.{ReportKind, type_of}
+use Rattle.report_rules.specs.Checks.{type_of}
 use Rattle.report_rules.specs.Errors.{ev}
 use Rattle.report_rules.specs.Statements.{Wanted, value_kinds, value_left, first_wanted, rest_wanted, ev_values, stm}
 use Rattle.report_rules.specs.Findings.{Finding, found, found_parts, found_values, found_stat}
@@ -33,7 +33,7 @@ use Rattle.run_frame.proofs.Parts.{Same, gave_then, gave_same}
 use Rattle.run_frame.proofs.Layers.{rules_of, seen_of, part_of, Inside, Placed, Marked, EndsBad, Trouble, Forward, Backward}
 use Rattle.run_frame.proofs.Readings.{sub_tail}
 use Rattle.run_frame.proofs.Passing.{none_violated}
-use Rattle.run_frame.proofs.Lists.{first_false, second_false}
+use Rattle.run_frame.proofs.Lists.{second_false}
 use Rattle.run_frame.proofs.Statements.{stat_gave, trouble_same}
 use Rattle.run_frame.proofs.Marks.{checked_below}
 use Rattle.run_frame.proofs.ListsBack.{Check, left_in, Lasting, Checks, ev_checks, found_checks, SomeIn, list_pays}
@@ -45,11 +45,11 @@ abbrev pub wanted_set : Option Wanted → Term
 wanted_set None = never
 wanted_set (Some wanted) = wanted.set
 
-wanted_marks : (an : Analysis) (frame : Frame) (e : Expr) (o : Option Wanted) → value_kinds (seen_of an frame) e o ≢ [] → below (type_of (seen_of an frame) e) (wanted_set o) ≡ true
+pub wanted_marks : (an : Analysis) (frame : Frame) (e : Expr) (o : Option Wanted) → value_kinds (seen_of an frame) e o ≢ [] → below (type_of (seen_of an frame) e) (wanted_set o) ≡ true
 wanted_marks an frame e None n = absurd (n refl)
 wanted_marks an frame e (Some wanted) n = checked_below (seen_of an frame) e wanted.set _ n
 
-wanted_within : (an : Analysis) (frame : Frame) (e : Expr) (o : Option Wanted) (h : Heap) (v : Value) → holds h v (value_left (seen_of an frame) e o) ≡ true → holds h v (wanted_set o) ≡ true
+pub wanted_within : (an : Analysis) (frame : Frame) (e : Expr) (o : Option Wanted) (h : Heap) (v : Value) → holds h v (value_left (seen_of an frame) e o) ≡ true → holds h v (wanted_set o) ≡ true
 wanted_within an frame e None h v k = k
 wanted_within an frame e (Some wanted) h v k = left_in (value_kinds (seen_of an frame) e (Some wanted)) wanted.set h v k
 
@@ -139,7 +139,7 @@ values_pay an l fit fwd bwd w s frame map wanted es behind lasts f r h inside pl
 
 -- ---- `return`
 
-none_wanted : (heap : Heap) (es : Exprs) (vs : List Value) → SomeWanted heap [] es vs → ⊥
+pub none_wanted : (heap : Heap) (es : Exprs) (vs : List Value) → SomeWanted heap [] es vs → ⊥
 none_wanted heap no_exprs vs k = k
 none_wanted heap (more_exprs e rest) vs (inl k) = clash (holds heap (first vs) never) k (never_none heap (first vs))
   where

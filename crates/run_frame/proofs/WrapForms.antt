@@ -1,12 +1,12 @@
 -- `(e)` and `e :: T`, forward and backward: one value of the part, with what it shows.
-use Rattle.std.proofs.Common.{◌≡◌, true, false, List, [], ◌∷◌, ◌⊎◌, inl, refl, sym, ap, subst}
+use Rattle.std.proofs.Common.{◌≡◌, true, false, List, [], ◌∷◌, ◌⊎◌, inl, refl, sym, subst}
 use Rattle.luau_values.specs.Value.{Value}
 use Rattle.luau_values.specs.Stands.{Stands}
-use Rattle.luau_tree.specs.Tree.{Expr, the_expr, ExprKind, Paren, Assert}
-use Rattle.luau_run.specs.SyntaxNode.{AnExpr, of_expr, of_expr_kind, of_block}
+use Rattle.luau_tree.specs.Tree.{Expr, the_expr, Paren, Assert}
+use Rattle.luau_run.specs.SyntaxNode.{AnExpr, of_expr, of_block}
 use Rattle.luau_run.specs.Machine.{State, Gave}
 use Rattle.luau_run.specs.Layer.{Frame, Layer, first}
-use Rattle.luau_run.specs.Expressions.{value, one, values, evaluate}
+use Rattle.luau_run.specs.Expressions.{value, one, values}
 use Rattle.luau_run.specs.Operators.{is_true}
 use Rattle.type_normal.specs.Holds.{holds}
 use Rattle.type_normal.specs.Kinds.{unknown}
