@@ -4,6 +4,7 @@ use Rattle.std.specs.List.{AllByRecursion}
 use Rattle.std.specs.Option.{option_map_or}
 use Rattle.luau_values.specs.Value.{Value, Nil, Truth, Num, Str, Tab, Lit, Builtin, Other}
 use Rattle.luau_values.specs.Heap.{Heap, is_frozen, field_of}
+use Rattle.luau_values.specs.Grows.{Grows}
 use Rattle.luau_values.specs.Stands.{Stands}
 use Rattle.luau_tree.specs.Tree.{Expr, the_expr, Stat, Block}
 use Rattle.luau_tree.specs.declared.names.Place.TheVariants.{Expr as ExprPlace}
@@ -240,7 +241,8 @@ Turns an frame map loop (Returns vs) t =
     × (holds t.store.heap (first vs) (returned_block (rules_of an frame) (turn_map (rules_of an frame) map loop) (loop_body loop)) ≡ true)
 
 -- a call that gives: what was called could be; a checked builtin took the arguments, and gave what it is declared to give; `type`
--- gave the name of its argument's kind, and `table.freeze` its argument, a table that is frozen by then
+-- gave the name of its argument's kind, and `table.freeze` its argument, a table that is frozen by
+-- then, with its fields, and no table changed but by freezing
 pub record Answers (an : Analysis) (callee : Value) (args : List Value) (s : State) (vs : List Value) (t : State) : Type 0 where
   pub stand : AllByRecursion (Stands t.store.heap) vs
   pub callable : holds s.store.heap callee call_fail ≡ false
@@ -248,7 +250,7 @@ pub record Answers (an : Analysis) (callee : Value) (args : List Value) (s : Sta
   pub given : (path : List ℕ) (g : Signature) → callee ≡ Builtin path → declaration an.program.builtins path ≡ Some g → may_give g t.store.heap vs ≡ true
   pub kind : callee ≡ Builtin (codes "type") → IsKindName (first args) (first vs)
   pub frozen : callee ≡ Builtin (codes "table.freeze") → (a : ℕ) × (first args ≡ Tab a) × (vs ≡ Tab a ∷ []) × (is_frozen t.store.heap a ≡ true)
-      × ((name : List ℕ) → field_of t.store.heap a name ≡ field_of s.store.heap a name)
+      × ((name : List ℕ) → field_of t.store.heap a name ≡ field_of s.store.heap a name) × Grows s.store.heap t.store.heap
 
 -- what the proof says of each form on a layer, however it ends
 pub record Forward (an : Analysis) (l : Layer) : Type 0 where

@@ -40,3 +40,5 @@ pub mod PartForms
 pub mod Wanted
 pub mod LooseContexts
 pub mod LocalBack
+pub mod Arguments
+pub mod CallForms

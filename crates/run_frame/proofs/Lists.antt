@@ -14,18 +14,18 @@ use Rattle.type_arena.specs.Term.{Term}
 use Rattle.type_normal.specs.Holds.{holds}
 use Rattle.type_normal.specs.HeapFree.{widen}
 use Rattle.type_normal.proofs.Public.{widen_above, widen_free, free_later, grown_holds}
-use Rattle.report_rules.specs.Rules.{Rules, fixed_builtin}
+use Rattle.report_rules.specs.Rules.{Rules, local_named, fixed_builtin}
 use Rattle.report_rules.specs.Effects.{last_expands, effects, any_effects}
 use Rattle.report_rules.specs.TypeMap.{TypeMap}
 use Rattle.report_rules.specs.Forward.{typ, held, after, types_of_list}
 use Rattle.report_rules.specs.Seen.{seen_expr, seen_list}
 use Rattle.report_rules.specs.Checks.{count}
-use Rattle.run_frame.specs.Analysis.{Analysis}
+use Rattle.run_frame.specs.Analysis.{Analysis, is_loose}
 use Rattle.run_frame.specs.Statements.{stats_of_block, stats_of_expr, stats_of_exprs}
 use Rattle.run_frame.proofs.World.{World}
 use Rattle.run_frame.proofs.Kept.{Doer, MayMore, Kept}
 use Rattle.run_frame.proofs.Fine.{Fine}
-use Rattle.run_frame.proofs.Held.{Runs, runs_kept, Held}
+use Rattle.run_frame.proofs.Held.{Runs, runs_kept, Reads, Held}
 use Rattle.run_frame.proofs.Parts.{Ends, ends_then, ends_so, ends_more, ends_give}
 use Rattle.run_frame.proofs.Layers.{rules_of, seen_of, part_of, expr_of, Inside, Placed, Gives, Forward}
 use Rattle.run_frame.proofs.Readings.{sub_left, sub_right}
@@ -101,12 +101,19 @@ abbrev pub AreFixed : Rules → Exprs → List Value → Type 0
 AreFixed rules no_exprs vs = Unit {0}
 AreFixed rules (more_exprs e rest) vs = ((path : List ℕ) → fixed_builtin rules e ≡ Some path → first vs ≡ Builtin path) × AreFixed rules rest (drop 1 vs)
 
+-- where a list is one bare name, its value is what the local holds
+abbrev pub OneLocal : Analysis → Frame → Exprs → List Value → State → Type 0
+OneLocal an frame (more_exprs e no_exprs) vs t =
+    (x : ℕ) → local_named (rules_of an frame) e ≡ Some x → is_loose an frame.module_at x ≡ false → (c : ℕ) × Reads frame t x c (first vs)
+OneLocal an frame _ vs t = Unit {0}
+
 -- a list gives values that stand and are of the types of the list; as many as it has expressions, unless the last one expands
 pub record ListGives (an : Analysis) (frame : Frame) (map : TypeMap) (es : Exprs) (vs : List Value) (t : State) : Type 0 where
   pub stand : AllByRecursion (Stands t.store.heap) vs
   pub typed : AreTyped t.store.heap (types_of_list (rules_of an frame) map es) vs
   pub number : last_expands es ≡ false → length vs ≡ count es
   pub fixed : AreFixed (rules_of an frame) es vs
+  pub local : OneLocal an frame es vs t
 
 one_first : (vs : List Value) (path : List ℕ) → vs ≡ Builtin path ∷ [] → first vs ≡ Builtin path
 one_first vs path e = ap first e
@@ -118,6 +125,7 @@ last_gives an frame map e vs t g = record {
   typed = (g.typed, tt);
   number = λ k. ap (λ (xs : List Value). length xs) (g.one k).1;
   fixed = (λ path k. one_first vs path (g.fixed path k), tt);
+  local = g.local;
 }
 
 first_stands : (heap : Heap) (vs : List Value) → AllByRecursion (Stands heap) vs → Stands heap (first vs)
@@ -136,6 +144,7 @@ more_gives an w v t u frame map e next rest one vs f k g h = record {
   );
   number = λ z. ap suc (h.number z);
   fixed = (λ path z. one_first one path (g.fixed path z), h.fixed);
+  local = tt;
 }
 
 -- what holds after the first of several
@@ -147,7 +156,7 @@ pub list_forward : (an : Analysis) (l : Layer) → Forward an l → (w : World) 
     → Ends an (part_of frame (any_effects (rules_of an frame) es)) w s (ListGives an frame map es) (all_values l frame es s)
 unfolding ◌>>=◌
 list_forward an l fwd w s frame map no_exprs f r h inside placed =
-    ends_give an (part_of frame false) w s (ListGives an frame map no_exprs) [] f (record { stand = tt; typed = tt; number = λ k. refl; fixed = tt })
+    ends_give an (part_of frame false) w s (ListGives an frame map no_exprs) [] f (record { stand = tt; typed = tt; number = λ k. refl; fixed = tt; local = tt })
 list_forward an l fwd w s frame map (more_exprs e no_exprs) f r h inside placed =
     ends_more an (expr_of an frame e) (part_of frame (any_effects (rules_of an frame) (more_exprs e no_exprs))) w s (ListGives an frame map (more_exprs e no_exprs)) (l.values frame e s)
     (may_first frame (effects (rules_of an frame) e) false)
