@@ -1,1 +1,6 @@
 pub mod Names
+pub mod Readings
+pub mod ReadRules
+pub mod Apart
+pub mod Nodes
+pub mod Laws
