@@ -2,21 +2,18 @@
 use Rattle.std.proofs.Common.{◌≡◌, ℕ, true, not, List, [], map, ap, ◌∙◌}
 use Rattle.std.specs.Prelude.{Option}
 use Rattle.std.specs.Option.{option_map_or}
-use Rattle.std.specs.List.{filter_map, AllByRecursion}
+use Rattle.std.specs.List.{filter_map}
 use Rattle.luau_tree.specs.declared.names.ExprId.{ExprId}
 use Rattle.luau_tree.specs.Tree.{Block, Body}
 use Rattle.luau_tree.specs.Nodes.{bodies_in, body_number}
 use Rattle.luau_scope.specs.declared.reading.Use.{Use}
 use Rattle.luau_scope.specs.declared.reading.LocalInfo.{LocalInfo}
 use Rattle.luau_scope.specs.declared.reading.RequireSite.{RequireSite}
-use Rattle.luau_scope.specs.Locals.{uses_of, locals_of, requires_of}
 use Rattle.luau_run.specs.ValueSet.{ValueSet}
 use Rattle.luau_run.specs.ReadFolder.{is_among, are_distinct, Captures}
-use Rattle.luau_run.specs.SyntaxNode.{SyntaxNode, AnExpr, ABody, ABind, of_block, inside}
-use Rattle.module_reading.specs.Readings.{used_by, declared_by, captured_by, reading_by, reading_of}
-use Rattle.module_reading.specs.Apart.{IsApart}
-use Rattle.module_reading.specs.Laws.{HasCaptured}
-use Rattle.module_reading.proofs.Lists.{Has, all_of, found_by, among_filter}
+use Rattle.luau_run.specs.SyntaxNode.{ABody, of_block, inside}
+use Rattle.module_reading.specs.Readings.{used_by, declared_by, captured_by, reading_by}
+use Rattle.module_reading.proofs.Lists.{Has, found_by, among_filter}
 use Rattle.module_reading.proofs.Nodes.{block, has_body}
 
 -- each body has its captured locals
@@ -26,14 +23,3 @@ pub captures : (uses : List (ExprId × Use)) (locals : List LocalInfo) (sites : 
 captures uses locals sites home x annotated leads body d h local =
     ap (λ o. is_among local (option_map_or (captured_by uses locals) o [])) (found_by body_number (bodies_in x) body d (has_body body (block x) h))
     ∙ among_filter (λ n. not (is_among n (filter_map (declared_by locals) (inside body)))) local (filter_map (used_by uses) (inside body))
-
-at_node : (paths : List (List ℕ)) (home : ℕ) (x : Block) (annotated : (function index : ℕ) → ValueSet) (leads : List ℕ → Option ℕ) → IsApart x
-    → (node : SyntaxNode) → Has (of_block x) node → HasCaptured (reading_of paths home x annotated leads) node
-at_node paths home x annotated leads apart (AnExpr e) h = tt
-at_node paths home x annotated leads apart (ABody body) h =
-    captures (uses_of paths x) (locals_of paths x) (requires_of paths x) home x annotated leads body apart.bodies h
-at_node paths home x annotated leads apart (ABind bind) h = tt
-
-pub all_captured : (paths : List (List ℕ)) (home : ℕ) (x : Block) (annotated : (function index : ℕ) → ValueSet) (leads : List ℕ → Option ℕ) → IsApart x
-    → AllByRecursion (HasCaptured (reading_of paths home x annotated leads)) (of_block x)
-all_captured paths home x annotated leads apart = all_of (HasCaptured (reading_of paths home x annotated leads)) (of_block x) (at_node paths home x annotated leads apart)

@@ -32,11 +32,11 @@ pub or_right : (a b : Bool) → b ≡ true → (a || b) ≡ true
 or_right true b e = refl
 or_right false b e = e
 
-not_true : (b : Bool) → not b ≡ true → b ≡ false
+pub not_true : (b : Bool) → not b ≡ true → b ≡ false
 not_true true e = cc
 not_true false e = refl
 
-is_not : (b : Bool) → b ≡ false → not b ≡ true
+pub is_not : (b : Bool) → b ≡ false → not b ≡ true
 is_not true e = cc
 is_not false e = refl
 

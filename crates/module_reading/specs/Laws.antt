@@ -1,10 +1,6 @@
 -- Words for the laws.
-use Rattle.std.specs.Prelude.{⊤, map, option_map}
-use Rattle.luau_tree.specs.Nodes.{body_number}
+use Rattle.std.specs.Prelude.{map, option_map}
 use Rattle.luau_run.specs.Signature as run
-use Rattle.luau_run.specs.ReadModule.{ReadModule}
-use Rattle.luau_run.specs.ReadFolder.{Captures}
-use Rattle.luau_run.specs.SyntaxNode.{SyntaxNode, ABody}
 use Rattle.report_rules.specs.Rules.{TypedBuiltin}
 use Rattle.type_decl.specs.Runs.{values_of}
 
@@ -18,8 +14,3 @@ run_builtin b = record {
   checked = b.checked;
   quiet = b.quiet;
 }
-
--- a body has its captured locals
-abbrev pub HasCaptured : ReadModule → SyntaxNode → Type 0
-HasCaptured reading (ABody body) = Captures reading body (reading.captured (body_number body))
-HasCaptured reading _ = ⊤

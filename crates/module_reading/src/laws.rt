@@ -1,7 +1,7 @@
 //! What holds of the reading of a module. Each law is the contract of a function that does nothing.
 
 ghost use Rattle.std.specs.Prelude.{◌≡◌, ℕ, true, false, List, Option, Some, map, option_map};
-ghost use Rattle.std.specs.List.{AllByRecursion, filter_map};
+ghost use Rattle.std.specs.List.{filter_map};
 ghost use Rattle.luau_values.specs.Value.{Value};
 ghost use Rattle.luau_values.specs.Heap.{Heap};
 ghost use Rattle.luau_tree.specs.Tree.{Block};
@@ -10,7 +10,8 @@ ghost use Rattle.luau_scope.specs.declared.reading.Scoped.{Scoped};
 ghost use Rattle.luau_scope.specs.Locals.{uses_of, locals_of, requires_of};
 ghost use Rattle.luau_run.specs.ValueSet.{ValueSet};
 ghost use Rattle.luau_run.specs.Signature.{declaration};
-ghost use Rattle.luau_run.specs.ReadFolder.{are_distinct};
+ghost use Rattle.luau_run.specs.Program.{Program, paths};
+ghost use Rattle.luau_run.specs.ReadFolder.{are_distinct, IsRead};
 ghost use Rattle.luau_run.specs.SyntaxNode.{of_block};
 ghost use Rattle.type_arena.specs.Term.{Term};
 ghost use Rattle.type_normal.specs.Holds.{holds};
@@ -22,7 +23,7 @@ ghost use Rattle.module_reading.specs.Readings.{reading_of};
 ghost use Rattle.module_reading.specs.ReadRules.{rules_of, rules_of_scoped};
 ghost use Rattle.module_reading.specs.Apart.{IsApart};
 ghost use Rattle.module_reading.specs.Nodes.{expr_number, body_number};
-ghost use Rattle.module_reading.specs.Laws.{run_builtin, HasCaptured};
+ghost use Rattle.module_reading.specs.Laws.{run_builtin};
 
 /// The rules of a module read its names as its uses and its locals say.
 pub fn rules_read_the_names()
@@ -61,8 +62,10 @@ pub fn running_nodes_are_distinct()
     ensures bodies { (block : Block) → IsApart block → are_distinct (filter_map body_number (of_block block)) ≡ true }
 {}
 
-/// Each body that runs has its captured locals.
-pub fn bodies_have_their_captured_locals()
-    ensures { (paths : List (List ℕ)) (home : ℕ) (block : Block) (annotated : (function index : ℕ) → ValueSet) (leads : List ℕ → Option ℕ) → IsApart block
-        → AllByRecursion (HasCaptured (reading_of paths home block annotated leads)) (of_block block) }
+/// A module is read over the builtins of a program, where its numbers and its declared names stand apart: each
+/// expression stands for what it may mean, each body has its captured locals, and each declaration is that of a local of its
+/// own.
+pub fn modules_are_read()
+    ensures { (program : Program) (home : ℕ) (block : Block) (annotated : (function index : ℕ) → ValueSet) (leads : List ℕ → Option ℕ)
+        → IsApart block → IsRead program (reading_of (paths program) home block annotated leads) }
 {}
