@@ -5,3 +5,5 @@ pub mod Bodies
 pub mod Origins
 pub mod Meanings
 pub mod Declared
+pub mod Told
+pub mod Visits

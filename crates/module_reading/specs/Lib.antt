@@ -4,3 +4,4 @@ pub mod ReadRules
 pub mod Apart
 pub mod Nodes
 pub mod Laws
+pub mod Statements
