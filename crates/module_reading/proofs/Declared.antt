@@ -109,7 +109,7 @@ starts_of_binds : (binds : List Bind) → map (λ (p : List ℕ × Span). p.1.st
 starts_of_binds [] = refl
 starts_of_binds (the_bind name span type ∷ binds) = ap (λ (ns : List ℕ). span.start ∷ ns) (starts_of_binds binds)
 
-same_starts : (every : List (List ℕ)) (x : Block) → map bind_start (binds_in x) ≡ map (λ (l : LocalInfo). l.declared.start) (locals_of every x)
+pub same_starts : (every : List (List ℕ)) (x : Block) → map bind_start (binds_in x) ≡ map (λ (l : LocalInfo). l.declared.start) (locals_of every x)
 same_starts every x = sym (starts_of_binds (binds_in x)) ∙ ap (map (λ (p : List ℕ × Span). p.1.start)) (sym (locals_are_declared every x)) ∙ starts_of_locals (locals_of every x)
 
 -- the offsets at which a module's locals are declared are where its declared names begin

@@ -7,3 +7,7 @@ pub mod Meanings
 pub mod Declared
 pub mod Told
 pub mod Visits
+pub mod Whole
+pub mod Inside
+pub mod Locals
+pub mod FitBodies

@@ -115,7 +115,7 @@ binds_keep v a scope (more_binds (the_bind name span type) rest) values n xs t i
         subst (λ (k : ℕ). Told v.ground (n + k) (finds.of_binds a rest (other_values values) (n + k))) (same_many a (first_value values) b n) later in
     subst (λ (s : Scope). v.Inv (in_scope a s) xs) (append_assoc scope (local_here a name n ∷ []) (numbered a rest m)) (binds_keep v a (scope ++ local_here a name n ∷ []) rest (other_values values) m xs later' i' j')
 
-own_told : (ground : Ground) (a : Around) (name : List ℕ) (span : Span) (type : MaybeType) (n : ℕ) → Told ground n (finds.of_own_bind a (the_bind name span type) n) → IsLocal ground n span None
+pub own_told : (ground : Ground) (a : Around) (name : List ℕ) (span : Span) (type : MaybeType) (n : ℕ) → Told ground n (finds.of_own_bind a (the_bind name span type) n) → IsLocal ground n span None
 own_told ground a name span type n t =
     (first ground n (one (Declares name span a.function None)) (of_entry (own_locals a) span then finds.of_maybe_type (in_scope a (a.scope ++ local_here a name n ∷ [])) type) t).each.0
 
