@@ -85,9 +85,9 @@ caught_here paths home x leads table import id has_self generics params vararg r
 caught_here paths home x leads table import id has_self generics params vararg returned code span apart seen (AnExpr (the_expr i s kind)) h y e out =
     caught_seen ground seen.around.scope whole far i s named.0 y (subst (λ (k : ExprKind). SeenExpr (under ground seen.around.scope whole far) i s k) (is_name kind named.0 named.1) there) e out
   where
-    abbrev ground : Ground
+    ground : Ground
     ground = ground_of paths home x leads table import
-    abbrev whole : List SyntaxNode
+    whole : List SyntaxNode
     whole = inside (the_body id has_self generics params vararg returned code span)
     far : IsFar seen.around.scope whole
     far v j n k = seen.inv.far v j n (inr k)
@@ -120,25 +120,25 @@ fit_seen paths home x leads table import id has_self generics params vararg retu
     params_free (ground_of paths home x leads table import) (in_body seen.around id vararg) params m
       (first (ground_of paths home x leads table import) m p1 (p2 then p3 then p4) (second (ground_of paths home x leads table import) seen.before p0 (p1 then p2 then p3 then p4) seen.told)))
   where
-    abbrev rules : Rules
+    rules : Rules
     rules = rules_of paths home x leads table import
-    abbrev b : Body
+    b : Body
     b = the_body id has_self generics params vararg returned code span
-    abbrev inner : Around
+    inner : Around
     inner = in_body seen.around id vararg
-    abbrev m : ℕ
+    m : ℕ
     m = seen.before + declarations (finds.of_gens (in_body seen.around id vararg) generics seen.before)
-    abbrev within : Around
+    within : Around
     within = in_scope (in_body seen.around id vararg) (behind_params (in_body seen.around id vararg) params m)
-    abbrev p0 : Part
+    p0 : Part
     p0 = finds.of_gens inner generics
-    abbrev p1 : Part
+    p1 : Part
     p1 = finds.of_params inner params
-    abbrev p2 : Part
+    p2 : Part
     p2 = finds.of_varargs within vararg
-    abbrev p3 : Part
+    p3 : Part
     p3 = finds.of_maybe_type within returned
-    abbrev p4 : Part
+    p4 : Part
     p4 = finds.of_block within code
     each : (y : ℕ) → Has (rules.reading.captured id) y → rules.caught y ≡ true
     each y j =

@@ -55,7 +55,7 @@ apart_left g xs ys d = distinct_left (filter_map g xs) (filter_map g ys) (ap are
 apart_right : (g : SyntaxNode → Option ℕ) (xs ys : List SyntaxNode) → are_distinct (filter_map g (xs ++ ys)) ≡ true → are_distinct (filter_map g ys) ≡ true
 apart_right g xs ys d = distinct_right (filter_map g xs) (filter_map g ys) (ap are_distinct (sym (filter_map-append g xs ys)) ∙ d)
 
-main_left : (ground : Ground) (whole : List SyntaxNode) (a : Around) (xs ys : List SyntaxNode) → Main ground whole a (xs ++ ys) → Main ground whole a xs
+pub main_left : (ground : Ground) (whole : List SyntaxNode) (a : Around) (xs ys : List SyntaxNode) → Main ground whole a (xs ++ ys) → Main ground whole a xs
 main_left ground whole a xs ys m = record {
   known = m.known;
   far = λ v h id k. m.far v h id (some_left body_number xs ys id k);
@@ -65,7 +65,7 @@ main_left ground whole a xs ys m = record {
   there = λ k h. m.there k (has_left xs ys k h);
 }
 
-main_right : (ground : Ground) (whole : List SyntaxNode) (a : Around) (xs ys : List SyntaxNode) → Main ground whole a (xs ++ ys) → Main ground whole a ys
+pub main_right : (ground : Ground) (whole : List SyntaxNode) (a : Around) (xs ys : List SyntaxNode) → Main ground whole a (xs ++ ys) → Main ground whole a ys
 main_right ground whole a xs ys m = record {
   known = m.known;
   far = λ v h id k. m.far v h id (some_right body_number xs ys id k);
@@ -75,10 +75,10 @@ main_right ground whole a xs ys m = record {
   there = λ k h. m.there k (has_right xs ys k h);
 }
 
-main_loop : (ground : Ground) (whole : List SyntaxNode) (a : Around) (l : Loop) (xs : List SyntaxNode) → Main ground whole a xs → Main ground whole (in_loop a l) xs
+pub main_loop : (ground : Ground) (whole : List SyntaxNode) (a : Around) (l : Loop) (xs : List SyntaxNode) → Main ground whole a xs → Main ground whole (in_loop a l) xs
 main_loop ground whole a l xs m = record { known = m.known; far = m.far; own = m.own; bodies = m.bodies; binds = m.binds; there = m.there }
 
-main_bind : (ground : Ground) (whole : List SyntaxNode) (a : Around) (name : List ℕ) (span : Span) (type : MaybeType) (given : Option ExprId) (n : ℕ) (xs : List SyntaxNode)
+pub main_bind : (ground : Ground) (whole : List SyntaxNode) (a : Around) (name : List ℕ) (span : Span) (type : MaybeType) (given : Option ExprId) (n : ℕ) (xs : List SyntaxNode)
     → Main ground whole a (ABind (the_bind name span type) ∷ []) → IsLocal ground n span given → Main ground whole a xs → Main ground whole (in_scope a (a.scope ++ local_here a name n ∷ [])) xs
 main_bind ground whole a name span type given n xs b told m = record {
   known = λ v h. known v (has_either a.scope (local_here a name n ∷ []) v h);
@@ -108,7 +108,7 @@ other_number id n ns d h = by_test (id == n) refl
         let t : is_among id ns ≡ true = among_has id ns (subst (λ (k : ℕ). Has ns k) (sym (eqb-true id n e)) h) in
         let f : is_among id ns ≡ false = not_true (is_among id ns) (and_parts (not (is_among id ns)) (are_distinct ns) d).0 in cc)
 
-main_enter : (ground : Ground) (whole : List SyntaxNode) (a : Around) (id : ℕ) (has_self : Bool) (generics : Gens) (params : Binds) (vararg : Varargs) (returned : MaybeType) (code : Block) (span : Span)
+pub main_enter : (ground : Ground) (whole : List SyntaxNode) (a : Around) (id : ℕ) (has_self : Bool) (generics : Gens) (params : Binds) (vararg : Varargs) (returned : MaybeType) (code : Block) (span : Span)
     → Main ground whole a (of_body (the_body id has_self generics params vararg returned code span)) → Main ground whole (in_body a id vararg) (inside (the_body id has_self generics params vararg returned code span))
 main_enter ground whole a id has_self generics params vararg returned code span m = record {
   known = m.known;

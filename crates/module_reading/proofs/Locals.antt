@@ -97,7 +97,7 @@ pub record Under (ground : Ground) (outer : Scope) (whole : List SyntaxNode) (a 
 abbrev pub IsFar : Scope → List SyntaxNode → Type 0
 IsFar outer whole = (v : Visible) → Has outer v → (id : ℕ) → Has (filter_map body_number whole) id → same_function v.function (Some (record { 0 = id })) ≡ false
 
-under_bind : (ground : Ground) (outer : Scope) (whole : List SyntaxNode) (a : Around) (name : List ℕ) (span : Span) (type : MaybeType) (given : Option ExprId) (n : ℕ) (xs : List SyntaxNode)
+pub under_bind : (ground : Ground) (outer : Scope) (whole : List SyntaxNode) (a : Around) (name : List ℕ) (span : Span) (type : MaybeType) (given : Option ExprId) (n : ℕ) (xs : List SyntaxNode)
     → Under ground outer whole a (ABind (the_bind name span type) ∷ []) → IsLocal ground n span given → Under ground outer whole a xs → Under ground outer whole (in_scope a (a.scope ++ local_here a name n ∷ [])) xs
 under_bind ground outer whole a name span type given n xs b told u = record {
   known = λ v h. known v (has_either a.scope (local_here a name n ∷ []) v h);
@@ -116,16 +116,16 @@ under_bind ground outer whole a name span type given n xs b told u = record {
         (has_some (declared_by ground.rules.reading) whole (ABind (the_bind name span type)) n (b.there (ABind (the_bind name span type)) (inl refl)) (ap Some told.place)))
     from v (inr (inr h)) = absurd h
 
-under_left : (ground : Ground) (outer : Scope) (whole : List SyntaxNode) (a : Around) (xs ys : List SyntaxNode) → Under ground outer whole a (xs ++ ys) → Under ground outer whole a xs
+pub under_left : (ground : Ground) (outer : Scope) (whole : List SyntaxNode) (a : Around) (xs ys : List SyntaxNode) → Under ground outer whole a (xs ++ ys) → Under ground outer whole a xs
 under_left ground outer whole a xs ys u = record { known = u.known; from = u.from; apart = u.apart; there = λ k h. u.there k (has_left xs ys k h) }
 
-under_right : (ground : Ground) (outer : Scope) (whole : List SyntaxNode) (a : Around) (xs ys : List SyntaxNode) → Under ground outer whole a (xs ++ ys) → Under ground outer whole a ys
+pub under_right : (ground : Ground) (outer : Scope) (whole : List SyntaxNode) (a : Around) (xs ys : List SyntaxNode) → Under ground outer whole a (xs ++ ys) → Under ground outer whole a ys
 under_right ground outer whole a xs ys u = record { known = u.known; from = u.from; apart = u.apart; there = λ k h. u.there k (has_right xs ys k h) }
 
-under_loop : (ground : Ground) (outer : Scope) (whole : List SyntaxNode) (a : Around) (l : Loop) (xs : List SyntaxNode) → Under ground outer whole a xs → Under ground outer whole (in_loop a l) xs
+pub under_loop : (ground : Ground) (outer : Scope) (whole : List SyntaxNode) (a : Around) (l : Loop) (xs : List SyntaxNode) → Under ground outer whole a xs → Under ground outer whole (in_loop a l) xs
 under_loop ground outer whole a l xs u = record { known = u.known; from = u.from; apart = u.apart; there = u.there }
 
-under_enter : (ground : Ground) (outer : Scope) (whole : List SyntaxNode) → IsFar outer whole → (a : Around) (id : ℕ) (has_self : Bool) (generics : Gens) (params : Binds) (vararg : Varargs) (returned : MaybeType) (code : Block) (span : Span)
+pub under_enter : (ground : Ground) (outer : Scope) (whole : List SyntaxNode) → IsFar outer whole → (a : Around) (id : ℕ) (has_self : Bool) (generics : Gens) (params : Binds) (vararg : Varargs) (returned : MaybeType) (code : Block) (span : Span)
     → Under ground outer whole a (of_body (the_body id has_self generics params vararg returned code span))
     → Under ground outer whole (in_body a id vararg) (inside (the_body id has_self generics params vararg returned code span))
 under_enter ground outer whole far a id has_self generics params vararg returned code span u = record {

@@ -1,13 +1,14 @@
 //! What holds of the reading of a module. Each law is the contract of a function that does nothing.
 
-ghost use Rattle.std.specs.Prelude.{◌≡◌, ℕ, true, false, List, Option, Some, map, option_map};
-ghost use Rattle.std.specs.List.{filter_map};
+ghost use Rattle.std.specs.Prelude.{◌≡◌, ℕ, true, false, List, Option, Some, None, map, option_map};
+ghost use Rattle.std.specs.List.{AllByRecursion, filter_map};
 ghost use Rattle.luau_values.specs.Value.{Value};
 ghost use Rattle.luau_values.specs.Heap.{Heap};
 ghost use Rattle.luau_tree.specs.Tree.{Block};
 ghost use Rattle.luau_tree.specs.View.{view_block};
 ghost use Rattle.luau_scope.specs.declared.reading.Scoped.{Scoped};
 ghost use Rattle.luau_scope.specs.Locals.{uses_of, locals_of, requires_of};
+ghost use Rattle.luau_scope.specs.Refusals.{refusal_of};
 ghost use Rattle.luau_run.specs.ValueSet.{ValueSet};
 ghost use Rattle.luau_run.specs.Signature.{declaration};
 ghost use Rattle.luau_run.specs.Program.{Program, paths};
@@ -23,7 +24,7 @@ ghost use Rattle.module_reading.specs.Readings.{reading_of};
 ghost use Rattle.module_reading.specs.ReadRules.{rules_of, rules_of_scoped};
 ghost use Rattle.module_reading.specs.Apart.{IsApart};
 ghost use Rattle.module_reading.specs.Nodes.{expr_number, body_number};
-ghost use Rattle.module_reading.specs.Laws.{run_builtin};
+ghost use Rattle.module_reading.specs.Laws.{run_builtin, IsFitBody};
 
 /// The rules of a module read its names as its uses and its locals say.
 pub fn rules_read_the_names()
@@ -68,4 +69,11 @@ pub fn running_nodes_are_distinct()
 pub fn modules_are_read()
     ensures { (program : Program) (home : ℕ) (block : Block) (annotated : (function index : ℕ) → ValueSet) (leads : List ℕ → Option ℕ)
         → IsApart block → IsRead program (reading_of (paths program) home block annotated leads) }
+{}
+
+/// Where nothing is refused, the locals that a body captures are captured, its parameters are distinct locals, and none of them
+/// always holds a builtin.
+pub fn locals_of_bodies_fit()
+    ensures { (paths : List (List ℕ)) (home : ℕ) (block : Block) (leads : List ℕ → Option ℕ) (table : List (List ℕ × Signature)) (import : ℕ → Term)
+        → IsApart block → refusal_of paths block ≡ None → AllByRecursion (IsFitBody (rules_of paths home block leads table import)) (of_block block) }
 {}
