@@ -1,0 +1,4 @@
+pub mod Leaves
+pub mod Literals
+pub mod Made
+pub mod View
