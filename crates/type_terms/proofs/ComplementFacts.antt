@@ -1,12 +1,12 @@
 -- What is reached from a complement: it has no references, and the function literals of what it is the complement of.
-use Rattle.std.proofs.Common.{◌≡◌, ℕ, zero, ◌<◌, Bool, false, List, [], ◌∷◌, ◌++◌, refl, sym, ap, ◌∙◌, subst, arith}
-use Rattle.std.specs.Prelude.{Option, Some, None, is_some, IsTrue, All, Contains}
+use Rattle.std.proofs.Common.{◌≡◌, ℕ, ◌<◌, List, [], ◌∷◌, ◌++◌, refl, sym, ap, ◌∙◌, subst, arith}
+use Rattle.std.specs.Prelude.{Option, Some, None, is_some, IsTrue, Contains}
 use Rattle.std.proofs.lemmas.List.Elements.{All-contains}
 use Rattle.type_arena.specs.Arena.{home_of, store_of}
 use Rattle.type_arena.specs.Homes.{Reaches, itself, through, ReachesHome, by_ref, by_literal, MayUse, reached, homes_in, literal_homes}
 use Rattle.type_arena.specs.Meaning.{term_of, term_by, fields_by, rows_by}
-use Rattle.type_arena.specs.Store.{Store, node_at, has, refs_of, field_types, row_types}
-use Rattle.type_arena.specs.Term.{Members, only, all_but, Function, builtin, literal, Free, Term, term, Rows, no_rows, more_rows, Fields, no_fields, more_fields, function_of, functions_in, functions_of, free_of}
+use Rattle.type_arena.specs.Store.{node_at, has, refs_of, field_types, row_types}
+use Rattle.type_arena.specs.Term.{Members, only, all_but, Function, Free, Term, term, Rows, no_rows, more_rows, Fields, no_fields, functions_in, functions_of}
 use Rattle.type_arena.specs.declared.arena.Arena.{Arena}
 use Rattle.type_arena.specs.declared.node.Among.{Among}
 use Rattle.type_arena.specs.declared.node.Among.TheVariants.{Only, AllBut}

@@ -1,9 +1,8 @@
 -- Types joined one after another, from the last one on.
-use Rattle.std.proofs.Common.{◌≡◌, ℕ, zero, ◌<◌, List, [], ◌∷◌, ◌++◌, map, refl, sym, ap, ◌∙◌, subst, arith}
+use Rattle.std.proofs.Common.{◌≡◌, zero, List, [], ◌∷◌, ◌++◌, map, refl, sym, ap, ◌∙◌, subst, arith}
 use Rattle.std.specs.Prelude.{IsTrue, All, Contains}
 use Rattle.std.proofs.lemmas.List.Elements.{All-contains, All-cons, Contains-append_left, Contains-append_right}
 use Rattle.type_arena.specs.Arena.{store_of}
-use Rattle.type_arena.specs.Homes.{Given, MayUse}
 use Rattle.type_arena.specs.Meaning.{term_of}
 use Rattle.type_arena.specs.Store.{has}
 use Rattle.type_arena.specs.Term.{Term}
@@ -13,10 +12,10 @@ use Rattle.type_normal.specs.Adds.{Adds}
 use Rattle.type_normal.proofs.AddsFacts.{there_kept}
 use Rattle.type_normal.proofs.RowsFacts.{all_fewer}
 use Rattle.type_ops.specs.Growing.{given_refs, IsClean}
-use Rattle.type_ops.proofs.GrowFacts.{adds_nothing, adds_more, clean_given, clean_may, clean_inner, all_there_on}
+use Rattle.type_ops.proofs.GrowFacts.{adds_nothing, clean_given, clean_may, clean_inner}
 use Rattle.type_ops.proofs.MeetFacts.{all_given}
 use Rattle.type_terms.specs.Made.{Made, joined}
-use Rattle.type_terms.proofs.Steps.{next_adds, next_made, means_also, made_on, two_clean, terms_kept}
+use Rattle.type_terms.proofs.Steps.{next_adds, next_made, means_also, two_clean, terms_kept}
 
 snoc_joined : (with_type : Term → Term → Term) (means : TypeRef → Term) (front : List TypeRef) (one : TypeRef) (last : Term)
     → joined with_type (map means (front ++ one ∷ [])) last ≡ joined with_type (map means front) (with_type (means one) last)

@@ -1,5 +1,5 @@
 -- The nodes of written types that are made of no other.
-use Rattle.std.proofs.Common.{◌≡◌, ℕ, Bool, true, List, [], ◌∷◌, refl, sym, ap, ◌∙◌, subst}
+use Rattle.std.proofs.Common.{◌≡◌, ℕ, true, List, [], ◌∷◌, refl, sym, ap, ◌∙◌, subst}
 use Rattle.type_arena.specs.Term.{function_of}
 use Rattle.type_arena.specs.declared.node.Among.{Among}
 use Rattle.type_arena.specs.declared.node.Among.TheVariants.{Only, AllBut}
@@ -123,4 +123,4 @@ bare_node x b is u n t f m o a s fn y z =
     none =
         ap (λ (k : code.TypeTerm.TypeTerm). leaf_of (view_term k)) (sym r)
         ∙ bare_layer (part.out-TypeTerm x) (λ e. u (sym r ∙ e)) (λ e. n (sym r ∙ e)) (λ e. t (sym r ∙ e)) (λ e. f (sym r ∙ e)) (λ e. m (sym r ∙ e)) (λ e. o (sym r ∙ e)) (λ e. a (sym r ∙ e))
-          (λ e. s (sym r ∙ e)) (λ e. fn (sym r ∙ e)) (λ text e. y text (sym r ∙ e)) (λ name e. z name (sym r ∙ e))
+        (λ e. s (sym r ∙ e)) (λ e. fn (sym r ∙ e)) (λ text e. y text (sym r ∙ e)) (λ name e. z name (sym r ∙ e))

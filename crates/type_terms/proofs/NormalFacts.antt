@@ -1,7 +1,7 @@
 -- Normal forms of unions, meets and rows, as they are made.
-use Rattle.std.proofs.Common.{◌≡◌, Bool, true, false, List, refl, sym, ap, ◌∙◌}
+use Rattle.std.proofs.Common.{◌≡◌, Bool, true, false, refl, ap}
 use Rattle.std.specs.Prelude.{◌||◌}
-use Rattle.type_arena.specs.Term.{Term, term, Rows, no_rows, more_rows, Fields, no_fields, more_fields}
+use Rattle.type_arena.specs.Term.{term, no_rows, more_rows, Fields, no_fields}
 use Rattle.type_normal.specs.Free.{no_values}
 use Rattle.type_normal.specs.Kinds.{row_type, table_type}
 use Rattle.type_normal.specs.Operations.{union, meet, meet_fields, put_field}

@@ -1,11 +1,11 @@
 -- Rows as they are written, in an arena.
-use Rattle.std.proofs.Common.{◌≡◌, ℕ, Bool, List, [], ◌∷◌, refl, sym, ap, ◌∙◌, subst}
+use Rattle.std.proofs.Common.{◌≡◌, ℕ, Bool, List, [], ◌∷◌, refl, ap, ◌∙◌, subst}
 use Rattle.std.specs.Prelude.{IsTrue, All}
 use Rattle.type_arena.specs.Arena.{store_of}
 use Rattle.type_arena.specs.Homes.{Given, literal_homes}
 use Rattle.type_arena.specs.Meaning.{term_of, term_by, fields_by}
 use Rattle.type_arena.specs.Store.{has, refs_of, field_types}
-use Rattle.type_arena.specs.Term.{Term, term, no_rows, more_rows, no_fields}
+use Rattle.type_arena.specs.Term.{term, no_rows, more_rows, no_fields}
 use Rattle.type_arena.specs.declared.arena.Arena.{Arena}
 use Rattle.type_arena.specs.declared.node.Node.{Node}
 use Rattle.type_arena.specs.declared.node.TypeRef.{TypeRef}

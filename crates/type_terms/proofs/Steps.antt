@@ -1,12 +1,12 @@
 -- What is made by calls on an arena, one after another.
 use Rattle.std.proofs.Common.{◌≡◌, ℕ, zero, suc, ◌<◌, List, [], ◌∷◌, map, get_or, refl, sym, ap, ◌∙◌, subst, arith}
 use Rattle.std.specs.Prelude.{Some, is_some, IsTrue, All, Contains}
-use Rattle.std.proofs.lemmas.List.Elements.{All-nil, All-cons, All-contains, All-weaker, Contains-get_or}
-use Rattle.type_arena.specs.Arena.{home_of, below_of, store_of}
-use Rattle.type_arena.specs.Homes.{ReachesHome, Given, MayUse, own_home, given_literal, reached, literal_homes}
-use Rattle.type_arena.specs.Meaning.{term_of, term_by, fields_by}
-use Rattle.type_arena.specs.Store.{Store, node_at, has, refs_of, Keeps, field_types}
-use Rattle.type_arena.specs.Term.{Term, Fields}
+use Rattle.std.proofs.lemmas.List.Elements.{All-nil, All-cons, All-contains, Contains-get_or}
+use Rattle.type_arena.specs.Arena.{home_of, store_of}
+use Rattle.type_arena.specs.Homes.{Given, MayUse, own_home, given_literal, reached, literal_homes}
+use Rattle.type_arena.specs.Meaning.{term_of, term_by}
+use Rattle.type_arena.specs.Store.{Store, node_at, has, refs_of, Keeps}
+use Rattle.type_arena.specs.Term.{Term}
 use Rattle.type_arena.specs.declared.arena.Arena.{Arena}
 use Rattle.type_arena.specs.declared.node.Node.{Node}
 use Rattle.type_arena.specs.declared.node.TypeRef.{TypeRef}
@@ -14,10 +14,10 @@ use Rattle.type_normal.specs.Adds.{Adds}
 use Rattle.type_normal.specs.TypeTerm.{TypeTerm, normal}
 use Rattle.type_normal.proofs.AddsFacts.{there_kept}
 use Rattle.type_ops.specs.Growing.{given_refs, IsClean}
-use Rattle.type_ops.proofs.GrowFacts.{adds_nothing, adds_more, clean_inner, clean_on, clean_may, all_clean_on, all_there_on, interned_clean, fields_kept}
+use Rattle.type_ops.proofs.GrowFacts.{adds_nothing, adds_more, clean_inner, clean_on, clean_may, interned_clean}
 use Rattle.type_terms.specs.Literals.{literals_in, named_in}
 use Rattle.type_terms.specs.Leaves.{leaf_of, IsNodeOf}
-use Rattle.type_terms.specs.Made.{Made, AllMade, FieldsMade}
+use Rattle.type_terms.specs.Made.{Made}
 
 nothing_in : {X : Type 0} (x : X) → Contains [] x → ⊥
 nothing_in x h = let l : h.0 < 0 = h.1 in omega arith

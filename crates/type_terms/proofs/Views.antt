@@ -117,7 +117,7 @@ pub leafy : (x : code.TypeTerm.TypeTerm) → ((frozen : Bool) (list : List code.
 leafy x p u m n =
     ap (λ (y : code.TypeTerm.TypeTerm). leaf_of (view_term y)) (sym (part.roll-out-TypeTerm x))
     ∙ leafy_layer (part.out-TypeTerm x) (λ frozen list e. p frozen list (sym (part.roll-out-TypeTerm x) ∙ e)) (λ list e. u list (sym (part.roll-out-TypeTerm x) ∙ e))
-      (λ list e. m list (sym (part.roll-out-TypeTerm x) ∙ e)) (λ of e. n of (sym (part.roll-out-TypeTerm x) ∙ e))
+    (λ list e. m list (sym (part.roll-out-TypeTerm x) ∙ e)) (λ of e. n of (sym (part.roll-out-TypeTerm x) ∙ e))
     ∙ ap view_term (part.roll-out-TypeTerm x)
 
 -- a field, by its parts

@@ -4,7 +4,7 @@ use Rattle.std.specs.Prelude.{IsTrue, All, Contains}
 use Rattle.std.proofs.lemmas.List.{take_more}
 use Rattle.std.proofs.lemmas.List.Elements.{All-nil, All-cons, All-append, Contains-append_left, Contains-append_right}
 use Rattle.type_arena.specs.Arena.{home_of, store_of}
-use Rattle.type_arena.specs.Homes.{Given, MayUse, given_literal}
+use Rattle.type_arena.specs.Homes.{MayUse, given_literal}
 use Rattle.type_arena.specs.Meaning.{term_of, fields_by}
 use Rattle.type_arena.specs.Store.{has, field_types}
 use Rattle.type_arena.specs.Term.{Term, Fields, no_fields, more_fields}
@@ -25,7 +25,7 @@ use Rattle.type_terms.specs.Literals.{literals_in, literals_in_terms, literals_i
 use Rattle.type_terms.specs.Made.{Made, AllMade, FieldsMade, normals, given_fields, union_of, meet_of}
 use Rattle.type_terms.specs.View.{view_term, view_terms, view_prop, view_props}
 use Rattle.type_terms.proofs.NormalFacts.{unions_joined, meets_joined, met_one_by_one}
-use Rattle.type_terms.proofs.Steps.{may_named, next_adds, next_made, means_also, one_clean, terms_kept}
+use Rattle.type_terms.proofs.Steps.{may_named, next_made, means_also, one_clean, terms_kept}
 use Rattle.type_terms.proofs.Views.{union_seen, meet_seen, not_seen, row_seen, prop_layer}
 
 -- ## Lists

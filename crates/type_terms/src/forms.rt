@@ -20,11 +20,7 @@ use type_arena::{Arena, Label, TypeRef};
 
 /// The normal form of a written type. Goes as deep as types are written within one another. After want of memory the arena
 /// holds what it held and perhaps more nodes.
-pub fn normal(
-    alloc: Global,
-    arena: &mut Arena<'_>,
-    term: &TypeTerm,
-) -> Result<TypeRef, AllocError>
+pub fn normal(alloc: Global, arena: &mut Arena<'_>, term: &TypeTerm) -> Result<TypeRef, AllocError>
     // The result by form, and by its values, where no row with fields is complemented.
     ensures term { IfOk result (λ at. term_of (store_of arena.new) at ≡ normal_of (view_term term.now)) }
     ensures values { IfOk result (λ at. is_proper (view_term term.now) ≡ true → (h : Heap) (v : Value) → holds h v (term_of (store_of arena.new) at) ≡ satisfies h v (view_term term.now)) }
@@ -41,11 +37,7 @@ pub fn normal(
 
 // The normal form of a written type.
 #[cycle(normals)]
-fn normal_at(
-    alloc: Global,
-    arena: &mut Arena<'_>,
-    term: &TypeTerm,
-) -> Result<TypeRef, AllocError>
+fn normal_at(alloc: Global, arena: &mut Arena<'_>, term: &TypeTerm) -> Result<TypeRef, AllocError>
     ensures made { IfOk result (λ at. Made arena.old arena.new (named_in (view_term term.now)) at (normal_of (view_term term.now))) }
     ensures adds { Adds arena.old arena.new (named_in (view_term term.now)) [] }
 {

@@ -14,10 +14,7 @@ pub(crate) fn leaf_node(alloc: Global, term: &TypeTerm) -> Result<Node, AllocErr
     let none = no_kind(alloc);
     match term {
         TypeTerm::Unknown => every_kind(alloc),
-        TypeTerm::Nil => Ok(Node {
-            nil: true,
-            ..none
-        }),
+        TypeTerm::Nil => Ok(Node { nil: true, ..none }),
         TypeTerm::True => Ok(Node {
             truth: true,
             ..none

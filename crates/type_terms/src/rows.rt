@@ -37,11 +37,7 @@ pub(crate) fn row(
 }
 
 // The node of one row.
-fn one_row(
-    alloc: Global,
-    frozen: bool,
-    fields: Vec<(Label, TypeRef)>,
-) -> Result<Node, AllocError>
+fn one_row(alloc: Global, frozen: bool, fields: Vec<(Label, TypeRef)>) -> Result<Node, AllocError>
     ensures { IfOk result (λ node. node ≡ record bare { rows = (record { frozen = frozen; fields = fields.items }) ∷ [] }) }
 {
     let mut rows = Vec::new(alloc);

@@ -30,10 +30,7 @@ pub enum TypeTerm {
     /// The tables.
     Table,
     /// The tables whose fields are in these types, and that are frozen if they have to be.
-    Props {
-        frozen: bool,
-        fields: Items<Prop>,
-    },
+    Props { frozen: bool, fields: Items<Prop> },
     /// The values of one of these types.
     Union(Items<TypeTerm>),
     /// The values of all of these types.

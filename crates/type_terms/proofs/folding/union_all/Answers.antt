@@ -1,4 +1,4 @@
-use Rattle.std.proofs.Common.{[], ◌∷◌, refl}
+use Rattle.std.proofs.Common.{refl}
 use Rattle.type_arena.specs.Arena.{store_of}
 use Rattle.type_normal.specs.Operations.{union}
 use Rattle.type_normal.specs.TypeTerm.{NeverTerm, normal}

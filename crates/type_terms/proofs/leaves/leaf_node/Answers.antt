@@ -1,4 +1,4 @@
-use Rattle.std.proofs.Common.{sym, ap, ◌∙◌}
+use Rattle.std.proofs.Common.{◌∙◌}
 use Rattle.type_normal.proofs.AddsFacts.{ok_more}
 use Rattle.type_terms.proofs.LeafFacts.{unknown_node, nil_node, true_node, false_node, number_node, other_node, table_node, string_node, function_node, text_node, named_node, bare_node}
 use Rattle.type_terms.proofs.leaves.leaf_node.Goals as goal
