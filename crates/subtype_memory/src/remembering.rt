@@ -1,0 +1,182 @@
+ghost use Rattle.std.specs.Prelude.{◌≡◌, true, IsTrue, IfSome, IfOk, All};
+ghost use Rattle.luau_values.specs.Heap.{Heap};
+ghost use Rattle.luau_values.specs.Value.{Value};
+ghost use Rattle.type_arena.specs.Meaning.{term_of, rows_by, fields_by};
+ghost use Rattle.type_arena.specs.Store.{has as has_node, row_types, field_types};
+ghost use Rattle.type_normal.specs.Holds.{holds};
+ghost use Rattle.type_normal.specs.Rows.{is_normal, are_normal_rows, are_normal_fields};
+ghost use Rattle.subtype_check.specs.Below.{below as below_term, each_row, rows_above, fields_above};
+ghost use Rattle.subtype_check.specs.Checking.{listed_at};
+ghost use Rattle.subtype_memory.specs.Remembered.{Says, AreRight};
+
+use crate::free::{has_all_values, is_free_below};
+use crate::pairs::Pair;
+use std::alloc::{AllocError, Global};
+use std::collections::HashMap;
+use type_arena::{Label, Nodes, Row, TypeRef};
+
+/// The answers that are known, by the two types.
+type Known = HashMap<Pair, bool>;
+
+/// Whether the one type is below the other. Each pair of types that is met is compared once, and its answer is then
+/// remembered, so that the work is bounded by the pairs of nodes that the two reach.
+pub fn below_remembering<N: Nodes>(
+    alloc: Global,
+    nodes: &N,
+    a: TypeRef,
+    b: TypeRef,
+) -> Result<bool, AllocError>
+    requires first { IsTrue (has_node (N.arenas nodes.now) a) }
+    requires second { IsTrue (has_node (N.arenas nodes.now) b) }
+
+    // The answer is that of the definition. Where it is yes, each value of the one type belongs to the other, in every heap.
+    ensures exact { IfOk result (λ answer. is_normal (term_of (N.arenas nodes.now) a) ≡ true → answer ≡ below_term (term_of (N.arenas nodes.now) a) (term_of (N.arenas nodes.now) b)) }
+    ensures includes { IfOk result (λ answer. is_normal (term_of (N.arenas nodes.now) a) ≡ true → answer ≡ true → (h : Heap) (v : Value) → holds h v (term_of (N.arenas nodes.now) a) ≡ true → holds h v (term_of (N.arenas nodes.now) b) ≡ true) }
+{
+    let mut known = Known::new(alloc);
+    let pair = Pair {
+        lower: Some(a),
+        upper: b,
+    };
+    let answer = types_below(nodes, &mut known, pair)?;
+    Ok(answer)
+}
+
+// Whether the lower of two types is below the upper one.
+#[cycle(walk)]
+fn types_below<N: Nodes>(nodes: &N, known: &mut Known, pair: Pair) -> Result<bool, AllocError>
+    requires lower { IfSome pair.lower (λ at. IsTrue (has_node (N.arenas nodes.now) at)) }
+    requires upper { IsTrue (has_node (N.arenas nodes.now) pair.upper) }
+    requires right { AreRight (N.arenas nodes.now) known.old }
+    ensures answer { IfOk result (λ below. Says (N.arenas nodes.now) pair below) }
+    ensures right { IfOk result (λ below. AreRight (N.arenas nodes.now) known.new) }
+{
+    if pair.lower == Some(pair.upper) {
+        return Ok(true);
+    }
+    if let Some(answer) = known.get(&pair) {
+        return Ok(*answer);
+    }
+    let answer = nodes_below(nodes, known, pair)?;
+    known.insert(pair, answer)?;
+    Ok(answer)
+}
+
+// Whether the lower of two types is below the upper one, by their nodes.
+#[cycle(walk)]
+fn nodes_below<N: Nodes>(nodes: &N, known: &mut Known, pair: Pair) -> Result<bool, AllocError>
+    requires lower { IfSome pair.lower (λ at. IsTrue (has_node (N.arenas nodes.now) at)) }
+    requires upper { IsTrue (has_node (N.arenas nodes.now) pair.upper) }
+    requires right { AreRight (N.arenas nodes.now) known.old }
+    ensures answer { IfOk result (λ below. Says (N.arenas nodes.now) pair below) }
+    ensures right { IfOk result (λ below. AreRight (N.arenas nodes.now) known.new) }
+{
+    let upper = nodes.node(pair.upper);
+    let uppers = upper.rows.as_slice();
+    match pair.lower {
+        Some(at) => {
+            let lower = nodes.node(at);
+            if !is_free_below(lower, upper) {
+                return Ok(false);
+            }
+            let each = rows_below(nodes, known, lower.rows.as_slice(), uppers)?;
+            Ok(each)
+        }
+        None => {
+            if !has_all_values(upper) {
+                return Ok(false);
+            }
+            let tables = row_below(nodes, known, false, &[], uppers)?;
+            Ok(tables)
+        }
+    }
+}
+
+// Whether each of some rows has one of others above it.
+#[cycle(walk)]
+fn rows_below<N: Nodes>(
+    nodes: &N,
+    known: &mut Known,
+    rows: &[Row],
+    uppers: &[Row],
+) -> Result<bool, AllocError>
+    requires lower { All (λ child. IsTrue (has_node (N.arenas nodes.now) child)) (row_types rows.now) }
+    requires upper { All (λ child. IsTrue (has_node (N.arenas nodes.now) child)) (row_types uppers.now) }
+    requires right { AreRight (N.arenas nodes.now) known.old }
+    ensures answer { IfOk result (λ below. are_normal_rows (rows_by (term_of (N.arenas nodes.now)) rows.now) ≡ true → below ≡ each_row (λ frozen fields. rows_above (rows_by (term_of (N.arenas nodes.now)) uppers.now) frozen fields) (rows_by (term_of (N.arenas nodes.now)) rows.now)) }
+    ensures right { IfOk result (λ below. AreRight (N.arenas nodes.now) known.new) }
+{
+    for row in rows {
+        let found = row_below(nodes, known, row.frozen, row.fields.as_slice(), uppers)?;
+        if !found {
+            return Ok(false);
+        }
+    }
+    Ok(true)
+}
+
+// Whether a row has one of some rows above it.
+#[cycle(walk)]
+fn row_below<N: Nodes>(
+    nodes: &N,
+    known: &mut Known,
+    frozen: bool,
+    fields: &[(Label, TypeRef)],
+    uppers: &[Row],
+) -> Result<bool, AllocError>
+    requires lower { All (λ child. IsTrue (has_node (N.arenas nodes.now) child)) (field_types fields.now) }
+    requires upper { All (λ child. IsTrue (has_node (N.arenas nodes.now) child)) (row_types uppers.now) }
+    requires right { AreRight (N.arenas nodes.now) known.old }
+    ensures answer { IfOk result (λ below. are_normal_fields (fields_by (term_of (N.arenas nodes.now)) fields.now) ≡ true → below ≡ rows_above (rows_by (term_of (N.arenas nodes.now)) uppers.now) frozen (fields_by (term_of (N.arenas nodes.now)) fields.now)) }
+    ensures right { IfOk result (λ below. AreRight (N.arenas nodes.now) known.new) }
+{
+    for upper in uppers {
+        if upper.frozen & !frozen {
+            continue;
+        }
+        let above = fields_below(nodes, known, fields, upper.fields.as_slice())?;
+        if above {
+            return Ok(true);
+        }
+    }
+    Ok(false)
+}
+
+// Whether the type of each of some fields is above the one that a row has for it.
+#[cycle(walk)]
+fn fields_below<N: Nodes>(
+    nodes: &N,
+    known: &mut Known,
+    fields: &[(Label, TypeRef)],
+    uppers: &[(Label, TypeRef)],
+) -> Result<bool, AllocError>
+    requires lower { All (λ child. IsTrue (has_node (N.arenas nodes.now) child)) (field_types fields.now) }
+    requires upper { All (λ child. IsTrue (has_node (N.arenas nodes.now) child)) (field_types uppers.now) }
+    requires right { AreRight (N.arenas nodes.now) known.old }
+    ensures answer { IfOk result (λ below. are_normal_fields (fields_by (term_of (N.arenas nodes.now)) fields.now) ≡ true → below ≡ fields_above (fields_by (term_of (N.arenas nodes.now)) uppers.now) (fields_by (term_of (N.arenas nodes.now)) fields.now)) }
+    ensures right { IfOk result (λ below. AreRight (N.arenas nodes.now) known.new) }
+{
+    for upper in uppers {
+        let pair = Pair {
+            lower: listed(fields, &upper.0),
+            upper: upper.1,
+        };
+        let fits = types_below(nodes, known, pair)?;
+        if !fits {
+            return Ok(false);
+        }
+    }
+    Ok(true)
+}
+
+// The type that a row lists for a field.
+fn listed(fields: &[(Label, TypeRef)], name: &Label) -> Option<TypeRef>
+    ensures { result ≡ listed_at name.now fields.now }
+{
+    for field in fields {
+        if field.0 == *name {
+            return Some(field.1);
+        }
+    }
+    None
+}
