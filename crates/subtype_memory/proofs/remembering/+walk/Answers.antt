@@ -12,7 +12,7 @@ use Rattle.type_normal.specs.Shape.{ranks}
 use Rattle.type_normal.proofs.ShapeFacts.{field_item_holds, field_item_rank, row_item_hold, row_item_rank, node_rank_at}
 use Rattle.subtype_check.specs.Below.{each_row, rows_above, fields_above, is_above, free_below}
 use Rattle.subtype_check.proofs.CheckingFacts.{listed_there, past_and, ends_and}
-use Rattle.subtype_memory.proofs.Remembering.{right_more, same_below, one_field, one_row, by_free, by_rows, all_by_free, all_by_rows}
+use Rattle.subtype_memory.proofs.PairFacts.{right_more, same_below, one_field, one_row, by_free, by_rows, all_by_free, all_by_rows}
 use Rattle.subtype_memory.proofs.remembering.+walk.Goals as goal
 
 pub fields_below-types_below-requires : goal.fields_below-types_below-requires
