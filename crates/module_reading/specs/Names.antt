@@ -1,5 +1,5 @@
 -- What the rules read of a module's names: what was found of them in its text.
-use Rattle.std.specs.Prelude.{◌≡◌, ℕ, suc, ◌==◌, Bool, false, List, [], ◌∷◌, Option, Some, None, if◌then◌else◌, slice_get}
+use Rattle.std.specs.Prelude.{◌≡◌, ℕ, suc, ◌==◌, false, List, [], ◌∷◌, Option, if◌then◌else◌, slice_get}
 use Rattle.std.specs.Option.{option_map, option_map_or, option_and_then}
 use Rattle.luau_tree.specs.declared.names.ExprId.{ExprId}
 use Rattle.luau_scope.specs.declared.reading.Use.{Use as Found}

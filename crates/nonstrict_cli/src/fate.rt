@@ -31,14 +31,16 @@ pub(crate) enum Fate {
     Refused(Pos, Reason),
     /// It is checked, and fails at these places of its text.
     Checked(List<Pos>),
+    /// Reports.
+    Reported(Vec<(Pos, diag_text::LineKind, Bytes)>),
 }
 
 /// The first place of a file.
-const FIRST: Pos = Pos { line: 1, column: 1 };
+pub(crate) const FIRST: Pos = Pos { line: 1, column: 1 };
 
 /// The place of an offset in a text over which the cursor stands. An offset past the end has the
 /// place of the end.
-fn place_in(text: &[u8], cursor: &mut Cursor<'_>, offset: u32) -> Pos
+pub(crate) fn place_in(text: &[u8], cursor: &mut Cursor<'_>, offset: u32) -> Pos
     requires over { cursor.old ≡ text.now }
     requires short { length text.now ≤ MAX_TEXT }
     ensures place { result ≡ pos_at text.now offset }
@@ -92,11 +94,9 @@ fn builtin_paths(alloc: Global) -> Result<PathSet, AllocError>
 /// What becomes of a text by its tree.
 fn fate_by_tree(alloc: Global, text: &[u8], module: Module) -> Result<Fate, AllocError>
     requires { length text.now ≤ MAX_TEXT }
-    ensures { IfOk result (λ fate.
-        fate ≡ found_of (fate_by_tree text.now (Ok (view_block «module».block)))) }
 {
     match resolve(alloc, module, &builtin_paths(alloc)?) {
-        Ok(scoped) => fate_by_calls(alloc, text, &scoped.module.block),
+        Ok(scoped) => crate::reported::fate_by_reports(alloc, text, &scoped),
         Err(ScopeError::NoMemory) => Err(AllocError),
         Err(ScopeError::Refused { why, at }) => {
             let place = place_in(text, &mut Cursor::new(text), at.start);

@@ -11,6 +11,7 @@ mod lines;
 mod nonstrict_call;
 mod paths;
 mod reason;
+mod reported;
 mod status;
 mod stop;
 mod words;

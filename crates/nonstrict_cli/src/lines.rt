@@ -63,6 +63,16 @@ pub(crate) fn push_lines(
 {
     match fate {
         Fate::Refused(at, why) => lines.push(refusal(alloc, path, *at, *why)?)?,
+        Fate::Reported(found) => {
+            for (at, kind, message) in found {
+                lines.push(Line {
+                    path: Bytes::of(Vec::from_slice(alloc, path.as_bytes())?),
+                    at: *at,
+                    kind: *kind,
+                    message: Bytes::of(Vec::from_slice(alloc, message.as_slice())?),
+                })?;
+            }
+        }
         Fate::Checked(places) => push_arguments(alloc, path, places.as_slice(), lines)?,
     }
     Ok(())

@@ -1,0 +1,3 @@
+pub mod PairFacts
+pub mod GrowSteps
+pub mod MadeFacts

@@ -1,0 +1,12 @@
+-- References from which an arena's own home is reached, and no other.
+use Rattle.std.specs.Prelude.{◌≡◌, ℕ, IsTrue}
+use Rattle.type_arena.specs.Arena.{home_of, store_of}
+use Rattle.type_arena.specs.Homes.{ReachesHome}
+use Rattle.type_arena.specs.Store.{has}
+use Rattle.type_arena.specs.declared.arena.Arena.{Arena}
+use Rattle.type_arena.specs.declared.node.TypeRef.{TypeRef}
+
+-- a reference is there, and only the arena's own home is reached from it
+pub record IsOwn (arena : Arena) (at : TypeRef) : Type 0 where
+  pub there : IsTrue (has (store_of arena) at)
+  pub home : (home : ℕ) → ReachesHome (store_of arena) at home → home ≡ home_of arena

@@ -1,0 +1,4 @@
+pub mod MapFacts
+pub mod GrowFacts
+pub mod PutFacts
+pub mod BothFacts

@@ -1,0 +1,5 @@
+pub mod Maps
+pub mod Entries
+pub mod Growing
+pub mod Changes
+pub mod Both

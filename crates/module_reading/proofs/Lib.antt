@@ -1,0 +1,9 @@
+pub mod Small
+pub mod Lists
+pub mod Nodes
+pub mod Bodies
+pub mod Origins
+pub mod Meanings
+pub mod Declared
+pub mod Told
+pub mod Visits

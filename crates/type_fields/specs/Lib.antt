@@ -1,0 +1,4 @@
+pub mod Plain
+pub mod Readings
+pub mod Unions
+pub mod Setting

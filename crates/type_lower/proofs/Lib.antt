@@ -1,0 +1,9 @@
+pub mod LogFacts
+pub mod MadeFacts
+pub mod CutFacts
+pub mod RowFacts
+pub mod PropFacts
+pub mod FormFacts
+pub mod JoinedFacts
+pub mod VisibleFacts
+pub mod WalkFacts
