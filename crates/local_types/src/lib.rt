@@ -13,3 +13,6 @@ mod types;
 pub use changes::{Change, How};
 pub use node::LocalMap;
 pub use types::LocalTypes;
+
+#[cfg(test)]
+mod tests;

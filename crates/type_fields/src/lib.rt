@@ -16,3 +16,6 @@ pub use plain::{Plain, named_type, plain_type, text_type};
 pub use reading::{exactly_one_function, has_nil, has_strings_or_other, is_unknown};
 pub use rows::{field_is, row_type};
 pub use setting::{frozen_rows, with_row_field};
+
+#[cfg(test)]
+mod tests;

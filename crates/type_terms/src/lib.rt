@@ -9,3 +9,6 @@ mod terms;
 
 pub use forms::normal;
 pub use terms::{Prop, TypeTerm};
+
+#[cfg(test)]
+mod tests;
