@@ -1,8 +1,8 @@
-mod PairFacts
-mod GrowSteps
-mod TermFacts
-mod StepFacts
-mod MadeFacts
-mod SideFacts
-mod KeptFacts
-mod OpFacts
+pub mod PairFacts
+pub mod GrowSteps
+pub mod TermFacts
+pub mod StepFacts
+pub mod MadeFacts
+pub mod SideFacts
+pub mod KeptFacts
+pub mod OpFacts
