@@ -1,5 +1,5 @@
 -- The parsers of arguments and of calls up to a refused token.
-use Rattle.std.proofs.Common.{◌≡◌, ℕ, ◌+◌, ◌≤◌, Bool, true, false, true≢false, ◌&&◌, ◌||◌, List, [], ◌∷◌, ◌++◌, refl, sym, ◌∙◌, ap, subst, inl, inr, codes, arith, if◌then◌else◌, leb-true, le-leb}
+use Rattle.std.proofs.Common.{◌≡◌, ℕ, ◌+◌, ◌≤◌, Bool, true, false, true≢false, List, [], ◌∷◌, ◌++◌, refl, sym, ◌∙◌, ap, subst, inl, codes, arith, if◌then◌else◌, leb-true, le-leb}
 use Rattle.std.specs.Prelude.{Ok, Err, nat_le}
 use Rattle.luau_lex.specs.Tokens.{Tok}
 use Rattle.luau_lex.specs.Values.{string_value}
@@ -11,16 +11,16 @@ use Rattle.luau_grammar.specs.declared.error.ParseError.TheVariants.{AmbiguousCa
 use Rattle.luau_grammar.specs.declared.symbol.Symbol.{Symbol}
 use Rattle.luau_grammar.specs.declared.symbol.Symbol.TheVariants as s
 use Rattle.luau_grammar.specs.Symbols.{same, symbol_of}
-use Rattle.luau_grammar.specs.Places.{Place, first_symbol, symbol, sees, start_of, behind}
+use Rattle.luau_grammar.specs.Places.{Place, symbol, sees, start_of, behind}
 use Rattle.luau_grammar.specs.Reading as read
 use Rattle.luau_grammar.specs.Reading.{Setting, Parser, Outcome, Readers, ◌>>=◌, ◌>>◌, and_then, pure, start, set_level, refusal}
 use Rattle.luau_grammar.specs.ReadExpressions as code
 use Rattle.grammar_faults.proofs.LocalTypes.{LocalReaders}
 use Rattle.fault_places.proofs.Closing.{Frame, CutLate, BeyondOf, ApartOf, place, Beyond, Before, top, roof, Far, Opens, Claim, Idle, Goes, far_then, claim_far, claim_from}
-use Rattle.fault_places.proofs.ClosingTokens.{anything, any, never, settle, choose_goes, this_opens, other_opens, under, refuses, refused_before, refused_far, claim_if, far_if, fits, nesting_apart, ambiguous_apart, next_goes, next_high, to_level_goes, to_level_opens, level_goes, level_opens, idle_if}
+use Rattle.fault_places.proofs.ClosingTokens.{anything, any, never, settle, choose_goes, this_opens, other_opens, refused_before, refused_far, claim_if, far_if, fits, nesting_apart, ambiguous_apart, to_level_goes, to_level_opens, level_goes, level_opens, idle_if}
 use Rattle.fault_places.proofs.ClosingSteps.{Reads, link, rest, idle}
-use Rattle.fault_places.proofs.ClosingWords.{EndsValue, the_name, the_sign, the_text, value_paren}
-use Rattle.fault_places.proofs.ClosingSymbols.{symbol_of_it, token, given, at_start, spanned, a_name, a_string, either, fitted, peek_sees, sees_first}
+use Rattle.fault_places.proofs.ClosingWords.{EndsValue, the_sign, the_text, value_paren}
+use Rattle.fault_places.proofs.ClosingSymbols.{symbol_of_it, token, given, at_start, spanned, a_name, a_string, either, peek_sees, sees_first}
 use Rattle.fault_places.proofs.ClosingLists.{Held, EndsList, some_tails}
 use Rattle.fault_places.proofs.ClosingBodies.{sort, told, deeper}
 use Rattle.fault_places.proofs.ClosingBraces.{fields_reads, table_reads}

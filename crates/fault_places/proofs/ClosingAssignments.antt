@@ -1,5 +1,5 @@
 -- The parsers of targets, assignments and calls that are statements, up to a refused token.
-use Rattle.std.proofs.Common.{◌≡◌, ℕ, zero, suc, ◌+◌, ◌≤◌, Bool, true, false, List, [], ◌∷◌, ◌++◌, length, refl, sym, ◌∙◌, ap, subst, codes, arith, if◌then◌else◌, Option, Some, None}
+use Rattle.std.proofs.Common.{◌≡◌, ℕ, zero, suc, ◌+◌, ◌≤◌, Bool, true, false, List, [], ◌∷◌, ◌++◌, length, refl, sym, ◌∙◌, ap, codes, arith, if◌then◌else◌, Option, Some, None}
 use Rattle.std.specs.Prelude.{Ok, Err}
 use Rattle.luau_lex.specs.Tokens.{Tok}
 use Rattle.luau_tree.specs.declared.names.BinOp.{BinOp}
@@ -16,21 +16,19 @@ use Rattle.luau_grammar.specs.Expressions.{begins_suffix}
 use Rattle.luau_grammar.specs.Statements.{is_variable, is_call, is_last}
 use Rattle.luau_grammar.specs.Reading as read
 use Rattle.luau_grammar.specs.Reading.{Parser, Outcome, Readers, ◌>>=◌, and_then, pure, start}
-use Rattle.luau_grammar.specs.ReadPhrases as phrases
 use Rattle.luau_grammar.specs.ReadExpressions as values
 use Rattle.luau_grammar.specs.ReadStatements as code
 use Rattle.grammar_faults.proofs.LocalTypes.{LocalReaders}
 use Rattle.grammar_faults.proofs.LocalStatements as locals
 use Rattle.grammar_faults.specs.Fronts.{BeginFrom}
 use Rattle.fault_places.proofs.Closing.{Frame, place, Beyond, Late, top, roof, peak, Far, Ends, Opens, Idle, Goes, far_then, claim_from, opens_by}
-use Rattle.fault_places.proofs.ClosingTokens.{anything, any, never, settle, goes_by, refuses, value_goes, other_opens, level_goes, level_opens, to_level_goes, to_level_opens, next_high, raise_high, under, choose_goes}
-use Rattle.fault_places.proofs.ClosingSteps.{Reads, link, rest, idle, loop_reads}
+use Rattle.fault_places.proofs.ClosingTokens.{anything, any, never, settle, goes_by, refuses, value_goes, other_opens, level_goes, next_high, raise_high, under}
+use Rattle.fault_places.proofs.ClosingSteps.{Reads, link, rest, idle}
 use Rattle.fault_places.proofs.ClosingWords.{EndsValue, the_name, the_sign}
 use Rattle.fault_places.proofs.ClosingSymbols.{symbol_of_it, token, given, at_start, spanned, peek_start}
 use Rattle.fault_places.proofs.ClosingLists.{Held, EndsList, some_tails, expression_reads, separated_from_reads}
-use Rattle.fault_places.proofs.ClosingBodies.{sort, told, then_then, index_goes}
+use Rattle.fault_places.proofs.ClosingBodies.{sort, told, then_then}
 use Rattle.fault_places.proofs.ClosingValues.{expressions_reads}
-use Rattle.fault_places.proofs.ClosingArguments.{leveled}
 use Rattle.fault_places.proofs.ClosingSuffixes.{NoSuffix, value_suffix, no_suffix, prefix_reads, suffix_goes, primary_sort}
 use Rattle.fault_places.proofs.ClosingTables.{turns_far}
 use Rattle.fault_places.proofs.ClosingTargets.{turn, stopped, went, behind_primary}

@@ -1,5 +1,5 @@
 -- Parsers in a row where a value tells how to go on, choices by two tokens, and levels that are restored.
-use Rattle.std.proofs.Common.{◌≡◌, ℕ, ◌≤◌, Bool, true, false, List, [], ◌∷◌, ◌++◌, length, refl, sym, ◌∙◌, ap, inl, inr, arith, if◌then◌else◌}
+use Rattle.std.proofs.Common.{◌≡◌, ℕ, ◌≤◌, Bool, true, false, List, [], ◌∷◌, ◌++◌, length, refl, ◌∙◌, ap, inl, inr, arith, if◌then◌else◌}
 use Rattle.std.specs.Prelude.{Ok, Err}
 use Rattle.luau_lex.specs.Tokens.{Tok}
 use Rattle.luau_grammar.specs.declared.symbol.Symbol.{Symbol}
@@ -10,7 +10,7 @@ use Rattle.luau_grammar.specs.Reading as read
 use Rattle.luau_grammar.specs.Reading.{Parser, Outcome, ◌>>=◌, and_then}
 use Rattle.luau_grammar.proofs.OperatorSteps.{steps_end}
 use Rattle.grammar_faults.proofs.Local.{Shorter}
-use Rattle.fault_places.proofs.Closing.{Frame, ApartOf, place, Beyond, Before, Late, top, roof, Far, Ends, Opens, Closed, Claim, Idle, Goes, claim_far, claim_from, both_by, opens_by}
+use Rattle.fault_places.proofs.Closing.{Frame, ApartOf, place, Beyond, Before, Late, top, roof, Far, Ends, Opens, Claim, Idle, Goes, claim_far, claim_from, both_by, opens_by}
 use Rattle.fault_places.proofs.ClosingTokens.{anything, any, never, goes_by, Peek, claim_if, idle_if, far_if, ends_by, fits_roof, leveled_idle, leveled_far, idle_of_far, other_opens, forget, forget_opens}
 use Rattle.fault_places.proofs.ClosingSteps.{Reads, fewer}
 use Rattle.fault_places.proofs.ClosingBodies.{then_then, deep_symbol}

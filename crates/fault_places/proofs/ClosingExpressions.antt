@@ -1,36 +1,33 @@
 -- The parsers of expressions without operators up to a refused token.
-use Rattle.std.proofs.Common.{◌≡◌, ℕ, ◌≤◌, Bool, true, false, ◌||◌, List, [], ◌∷◌, refl, sym, ◌∙◌, ap, codes, arith, if◌then◌else◌, Option, None}
+use Rattle.std.proofs.Common.{◌≡◌, ℕ, ◌≤◌, true, false, ◌||◌, ◌∷◌, refl, ◌∙◌, ap, codes, arith, Option, None}
 use Rattle.luau_lex.specs.Tokens.{Tok}
-use Rattle.luau_lex.specs.Values.{string_value}
 use Rattle.luau_tree.specs.declared.position.Span.{Span}
 use Rattle.luau_tree.specs.Tree.{Expr, ExprKind, Items}
 use Rattle.luau_tree.specs.Tree as tree
 use Rattle.luau_grammar.specs.declared.symbol.Symbol.{Symbol}
 use Rattle.luau_grammar.specs.declared.symbol.Symbol.TheVariants as s
 use Rattle.luau_grammar.specs.Symbols.{same, symbol_of}
-use Rattle.luau_grammar.specs.Places.{Place, first_symbol, symbol, sees, start_of}
+use Rattle.luau_grammar.specs.Places.{Place, symbol, sees, start_of}
 use Rattle.luau_grammar.specs.Reading as read
 use Rattle.luau_grammar.specs.Reading.{Parser, Readers, ◌>>=◌, pure, start}
 use Rattle.luau_grammar.specs.ReadPhrases as phrases
-use Rattle.luau_grammar.specs.ReadTypes as types
 use Rattle.luau_grammar.specs.ReadExpressions as code
 use Rattle.grammar_faults.proofs.LocalTypes.{LocalReaders}
-use Rattle.fault_places.proofs.Closing.{Frame, place, Beyond, top, roof, peak, Far, Opens, Idle, Goes, far_then}
-use Rattle.fault_places.proofs.ClosingTokens.{anything, any, never, choose_goes, this_opens, other_opens, goes_by, refuses, under, under_opens, forget, forget_opens, level_goes, value_opens}
+use Rattle.fault_places.proofs.Closing.{Frame, place, peak, Opens, Goes, far_then}
+use Rattle.fault_places.proofs.ClosingTokens.{anything, any, never, choose_goes, this_opens, other_opens, refuses, under, under_opens, forget, forget_opens, level_goes, value_opens}
 use Rattle.fault_places.proofs.ClosingSteps.{Reads, link, rest, idle}
-use Rattle.fault_places.proofs.ClosingWords.{EndsType, EndsValue, the_name, the_sign, the_word, the_text, the_number}
-use Rattle.fault_places.proofs.ClosingSymbols.{symbol_of_it, given, at_start, spanned, a_string, if_seen, fitted, peek_symbol, peek_start, peek_sees, sees_first}
+use Rattle.fault_places.proofs.ClosingWords.{EndsValue, the_name, the_sign, the_word, the_text, the_number}
+use Rattle.fault_places.proofs.ClosingSymbols.{symbol_of_it, given, at_start, spanned, a_string, if_seen, fitted, peek_sees, sees_first}
 use Rattle.fault_places.proofs.ClosingLists.{Held, some_tails, typ_reads}
-use Rattle.fault_places.proofs.ClosingBodies.{sort, body_reads}
+use Rattle.fault_places.proofs.ClosingBodies.{body_reads}
 use Rattle.fault_places.proofs.ClosingBraces.{table_reads}
 use Rattle.fault_places.proofs.ClosingValues.{attributes_reads, if_else_reads, word_reads}
 use Rattle.fault_places.proofs.ClosingPairs.{var_annotation_reads}
 use Rattle.fault_places.proofs.ClosingTypes.{generics_reads}
 use Rattle.fault_places.proofs.ClosingForms.{result_reads}
 use Rattle.fault_places.proofs.ClosingArguments.{table_far, table_idle}
-use Rattle.fault_places.proofs.ClosingSuffixes.{NoSuffix, value_suffix, prefix_reads, only_prefix}
+use Rattle.fault_places.proofs.ClosingSuffixes.{value_suffix, prefix_reads, only_prefix}
 use Rattle.fault_places.proofs.ClosingParts.{interpolation_goes, whole_goes}
-use Rattle.fault_places.proofs.ClosingMembers.{either_no}
 use Rattle.fault_places.proofs.ClosingChoices.{by_peek, opens_link, never_then}
 
 -- ---- a name, and nothing more

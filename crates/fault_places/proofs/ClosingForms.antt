@@ -21,7 +21,7 @@ use Rattle.fault_places.proofs.Closing.{Frame, ApartOf, place, Beyond, Late, roo
 use Rattle.fault_places.proofs.ClosingTokens.{anything, any, never, Peek, settle, choose_goes, this_opens, other_opens, goes_by, refuses, under, phrase_goes, next_opens, value_opens}
 use Rattle.fault_places.proofs.ClosingSteps.{Reads, link, rest, idle, loop_reads}
 use Rattle.fault_places.proofs.ClosingWords.{EndsType, the_name, the_sign, the_text}
-use Rattle.fault_places.proofs.ClosingSymbols.{symbol_of_it, token, given, at_start, spanned, a_string, either, if_seen, fitted, peek_symbol, peek_sees, sees_first}
+use Rattle.fault_places.proofs.ClosingSymbols.{symbol_of_it, token, given, at_start, spanned, a_string, either, if_seen, peek_symbol, peek_sees, sees_first}
 use Rattle.fault_places.proofs.ClosingLists.{Held, some_tails, expression_reads, typ_reads}
 use Rattle.fault_places.proofs.ClosingNames.{seen_far, first_far}
 use Rattle.fault_places.proofs.ClosingPairs.{typ_named, second, no_second}

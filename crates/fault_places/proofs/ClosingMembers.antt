@@ -1,17 +1,16 @@
 -- The parsers of lists of types in parentheses, and of results, up to a refused token.
-use Rattle.std.proofs.Common.{◌≡◌, ℕ, zero, suc, ◌+◌, ◌≤◌, Bool, true, false, not, ◌&&◌, ◌||◌, List, [], ◌∷◌, ◌++◌, length, refl, sym, ◌∙◌, ap, ap₂, subst, codes, None, Some, Option, is_some, arith, if◌then◌else◌, length-append}
+use Rattle.std.proofs.Common.{◌≡◌, ℕ, zero, suc, ◌+◌, ◌≤◌, Bool, true, false, not, ◌&&◌, ◌||◌, List, [], ◌∷◌, ◌++◌, length, refl, sym, ◌∙◌, ap, ap₂, subst, codes, None, is_some, arith, if◌then◌else◌, length-append}
 use Rattle.std.specs.Prelude.{Ok}
 use denote.Enum.Bare.{same_true}
 use Rattle.luau_lex.specs.Tokens.{Tok}
 use Rattle.luau_grammar.specs.contracts.symbol.Symbol.{the_type}
 use Rattle.luau_tree.specs.Tree.{TypeSyntax}
-use Rattle.luau_tree.specs.Tree as tree
 use Rattle.luau_grammar.specs.declared.symbol.Symbol.{Symbol}
 use Rattle.luau_grammar.specs.declared.symbol.Symbol.TheVariants as s
 use Rattle.luau_grammar.specs.Symbols.{same, symbol_of}
-use Rattle.luau_grammar.specs.Places.{Place, first_symbol, symbol, symbol_behind, sees, sees_behind, start_of}
+use Rattle.luau_grammar.specs.Places.{Place, first_symbol, symbol, symbol_behind, sees, sees_behind}
 use Rattle.luau_grammar.specs.Phrases.{Listed, in_parens}
-use Rattle.luau_grammar.specs.Types.{begins_tail, begins_named, is_type_front, pack_of, goes_on}
+use Rattle.luau_grammar.specs.Types.{begins_tail, begins_named}
 use Rattle.luau_grammar.specs.Reading as read
 use Rattle.luau_grammar.specs.Reading.{Parser, Outcome, Readers, ◌>>=◌, ◌>>◌, and_then, pure, start, last}
 use Rattle.luau_grammar.specs.ReadPhrases as phrases
@@ -21,16 +20,16 @@ use Rattle.grammar_faults.proofs.Local.{Shorter, both, done, least, shorter_if}
 use Rattle.grammar_faults.proofs.LocalTokens as tokens
 use Rattle.grammar_faults.proofs.LocalTypes as locals
 use Rattle.grammar_faults.proofs.LocalTypes.{LocalReaders}
-use Rattle.fault_places.proofs.Closing.{Frame, ApartOf, place, Beyond, roof, Far, Opens, Goes, far_then, both_by, opens_by}
-use Rattle.fault_places.proofs.ClosingTokens.{anything, any, never, settle, choose_goes, this_opens, other_opens, goes_by, opens_from, refuses, under}
+use Rattle.fault_places.proofs.Closing.{Frame, ApartOf, place, roof, Far, Opens, Goes, far_then, opens_by}
+use Rattle.fault_places.proofs.ClosingTokens.{anything, any, never, settle, choose_goes, this_opens, other_opens, goes_by, opens_from, under}
 use Rattle.fault_places.proofs.ClosingSteps.{Reads, link, rest, idle, loop_reads}
 use Rattle.fault_places.proofs.ClosingWords.{EndsType, the_name, the_sign, right_paren}
-use Rattle.fault_places.proofs.ClosingSymbols.{symbol_of_it, given, at_start, at_last, a_name, either, fitted, peek_sees, sees_first}
+use Rattle.fault_places.proofs.ClosingSymbols.{symbol_of_it, at_start, at_last, a_name, either, fitted, peek_sees, sees_first}
 use Rattle.fault_places.proofs.ClosingLists.{Held, EndsList, some_tails, typ_reads}
 use Rattle.fault_places.proofs.ClosingBodies.{told, then_if}
 use Rattle.fault_places.proofs.ClosingNames.{seen_far}
 use Rattle.fault_places.proofs.ClosingPairs.{name_far, typ_named, pack_beyond, second, no_second}
-use Rattle.fault_places.proofs.ClosingTypes.{variadic_reads, generic_pack_reads, function_behind_reads}
+use Rattle.fault_places.proofs.ClosingTypes.{variadic_reads, generic_pack_reads}
 use Rattle.fault_places.proofs.ClosingChoices.{follow_by, link_by, by_two}
 
 -- what tells what a list in parentheses is: whether a type has a name, whether there is a tail, and how many types

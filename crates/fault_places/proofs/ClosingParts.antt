@@ -1,11 +1,10 @@
 -- The parser of the parts of an interpolated string up to a refused token.
-use Rattle.std.proofs.Common.{◌≡◌, ℕ, zero, suc, ◌+◌, ◌-◌, ◌≤◌, Bool, true, false, true≢false, List, [], ◌∷◌, ◌++◌, length, refl, sym, ◌∙◌, ap, subst, inl, inr, codes, arith, if◌then◌else◌, length-append}
+use Rattle.std.proofs.Common.{◌≡◌, ℕ, zero, suc, ◌+◌, ◌-◌, ◌≤◌, Bool, true, false, List, [], ◌∷◌, ◌++◌, length, refl, sym, ◌∙◌, ap, subst, inl, inr, arith, if◌then◌else◌, length-append}
 use Rattle.std.specs.Prelude.{Ok, Err}
 use Rattle.luau_lex.specs.Tokens.{Tok}
 use Rattle.luau_tree.specs.Tree.{Expr}
 use Rattle.luau_tree.specs.Tree as tree
 use Rattle.luau_tree.specs.View.{exprs}
-use Rattle.luau_grammar.specs.declared.symbol.Symbol.{Symbol}
 use Rattle.luau_grammar.specs.declared.symbol.Symbol.TheVariants as s
 use Rattle.luau_grammar.specs.Symbols.{same, symbol_of}
 use Rattle.luau_grammar.specs.Places.{Place, symbol, sees}
@@ -17,11 +16,11 @@ use Rattle.grammar_faults.proofs.Local.{Shorter}
 use Rattle.grammar_faults.proofs.LocalTypes.{LocalReaders}
 use Rattle.grammar_faults.proofs.LocalExpressions as terms
 use Rattle.grammar_faults.specs.Fronts.{BeginFrom}
-use Rattle.fault_places.proofs.Closing.{Frame, place, Beyond, Before, Late, top, roof, Far, Ends, AtCut, Claim, Idle, Goes, claim_far, claim_from, far_then}
-use Rattle.fault_places.proofs.ClosingTokens.{anything, any, never, refused_before, fits_roof, idle_of_far}
+use Rattle.fault_places.proofs.Closing.{Frame, place, Beyond, Before, top, roof, Far, Ends, AtCut, Claim, Idle, Goes, claim_far, claim_from}
+use Rattle.fault_places.proofs.ClosingTokens.{anything, any, never, refused_before, idle_of_far}
 use Rattle.fault_places.proofs.ClosingSteps.{Reads, link, rest, idle, fewer}
 use Rattle.fault_places.proofs.ClosingWords.{EndsValue, the_name, the_last, the_mid, the_begin, the_whole}
-use Rattle.fault_places.proofs.ClosingSymbols.{symbol_of_it, given, spanned, a_string, either, peek_sees}
+use Rattle.fault_places.proofs.ClosingSymbols.{given, spanned, a_string, either, peek_sees}
 use Rattle.fault_places.proofs.ClosingLists.{Held, some_tails, expression_reads}
 use Rattle.fault_places.proofs.ClosingBodies.{told}
 use Rattle.fault_places.proofs.ClosingTables.{turns_far}

@@ -1,19 +1,19 @@
 -- The parsers of prefixes, with their suffixes, up to a refused token.
-use Rattle.std.proofs.Common.{◌≡◌, ℕ, ◌≤◌, Bool, true, false, ◌||◌, List, [], ◌∷◌, refl, ◌∙◌, codes, arith, if◌then◌else◌}
+use Rattle.std.proofs.Common.{◌≡◌, ℕ, ◌≤◌, Bool, true, false, ◌||◌, List, ◌∷◌, refl, codes}
 use Rattle.luau_lex.specs.Tokens.{Tok}
 use Rattle.luau_tree.specs.Tree.{Expr}
 use Rattle.luau_tree.specs.Tree as tree
 use Rattle.luau_grammar.specs.declared.symbol.Symbol.{Symbol}
 use Rattle.luau_grammar.specs.declared.symbol.Symbol.TheVariants as s
 use Rattle.luau_grammar.specs.Symbols.{same, symbol_of}
-use Rattle.luau_grammar.specs.Places.{Place, first_symbol, symbol, sees, start_of}
+use Rattle.luau_grammar.specs.Places.{first_symbol, symbol, sees, start_of}
 use Rattle.luau_grammar.specs.Expressions.{begins_suffix}
 use Rattle.luau_grammar.specs.Reading as read
 use Rattle.luau_grammar.specs.Reading.{Parser, Readers, ◌>>=◌, pure, start}
 use Rattle.luau_grammar.specs.ReadExpressions as code
 use Rattle.grammar_faults.proofs.LocalTypes.{LocalReaders}
 use Rattle.grammar_faults.proofs.LocalExpressions as terms
-use Rattle.fault_places.proofs.Closing.{Frame, place, roof, peak, Opens, Goes}
+use Rattle.fault_places.proofs.Closing.{Frame, place, peak, Opens, Goes}
 use Rattle.fault_places.proofs.ClosingTokens.{anything, any, never, choose_goes, other_opens, value_opens}
 use Rattle.fault_places.proofs.ClosingSteps.{Reads, link, rest, idle, loop_reads}
 use Rattle.fault_places.proofs.ClosingWords.{EndsValue, the_name, the_sign, value_paren}

@@ -8,7 +8,6 @@ use Rattle.luau_tree.specs.Tree.{TypeSyntax, Prop, PropKey}
 use Rattle.luau_tree.specs.Tree as tree
 use Rattle.luau_tree.specs.View.{props}
 use Rattle.luau_grammar.specs.declared.error.ParseError.TheVariants.{Nesting}
-use Rattle.luau_grammar.specs.declared.symbol.Symbol.{Symbol}
 use Rattle.luau_grammar.specs.declared.symbol.Symbol.TheVariants as s
 use Rattle.luau_grammar.specs.Symbols.{same, symbol_of}
 use Rattle.luau_grammar.specs.Places.{Place, first_symbol, symbol, symbol_behind, sees, sees_behind, sees_word, behind}
@@ -25,7 +24,7 @@ use Rattle.grammar_faults.proofs.LocalTypes.{LocalReaders}
 use Rattle.fault_places.proofs.Closing.{Frame, ApartOf, place, Beyond, Late, roof, peak, Far, Opens, Goes, far_then}
 use Rattle.fault_places.proofs.ClosingTokens.{anything, any, never, this_opens, other_opens, goes_by, opens_from, refuses, far_if, nesting_apart, under, under_opens, value_opens}
 use Rattle.fault_places.proofs.ClosingSteps.{Reads, link, rest, idle}
-use Rattle.fault_places.proofs.ClosingWords.{EndsType, the_name, the_sign, right_brace, right_bracket}
+use Rattle.fault_places.proofs.ClosingWords.{EndsType, the_name, the_sign, right_brace}
 use Rattle.fault_places.proofs.ClosingSymbols.{symbol_of_it, token, given, at_start, spanned}
 use Rattle.fault_places.proofs.ClosingLists.{Held, some_tails, typ_reads}
 use Rattle.fault_places.proofs.ClosingNames.{seen_far, then_far}
@@ -54,7 +53,7 @@ three r b n n' a a' w w' h k l = cc
 
 module _ (f : Frame) where
   -- any token before the cut is taken, or the fault stands there
-  any_far : {B : Type 0} (u : Tok) (l m : ℕ) → (h : Tok → Parser B) → Far f (h u (place f.cut u.span.end m)) → Far f ((read.next f.low >>= h) (place (u ∷ f.cut) l m))
+  pub any_far : {B : Type 0} (u : Tok) (l m : ℕ) → (h : Tok → Parser B) → Far f (h u (place f.cut u.span.end m)) → Far f ((read.next f.low >>= h) (place (u ∷ f.cut) l m))
   unfolding read.next
   any_far u l m h k =
       then_far f (f.low.rules.may_stand u m) (Ok (u, behind u f.cut m)) (Err (Nesting u.span.start)) h k (nesting_apart f.low.len u.span.start f.cut)

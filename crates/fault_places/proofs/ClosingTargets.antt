@@ -1,29 +1,25 @@
 -- The parsers of prefixes that are statements' own, and of what is asked of them, up to a refused token.
-use Rattle.std.proofs.Common.{◌≡◌, ℕ, zero, suc, ◌+◌, ◌-◌, ◌≤◌, Bool, true, false, List, [], ◌∷◌, ◌++◌, length, refl, sym, ◌∙◌, ap, subst, inl, inr, codes, arith, if◌then◌else◌, length-append}
+use Rattle.std.proofs.Common.{◌≡◌, ℕ, zero, suc, ◌+◌, ◌-◌, ◌≤◌, Bool, true, false, List, ◌∷◌, ◌++◌, length, refl, sym, ◌∙◌, ap, subst, inl, inr, arith, if◌then◌else◌, length-append}
 use Rattle.std.specs.Prelude.{Ok, Err}
 use Rattle.luau_lex.specs.Tokens.{Tok}
 use Rattle.luau_tree.specs.Tree.{Expr}
 use Rattle.luau_grammar.specs.declared.symbol.Symbol.{Symbol}
-use Rattle.luau_grammar.specs.declared.symbol.Symbol.TheVariants as s
-use Rattle.luau_grammar.specs.Symbols.{same, symbol_of}
 use Rattle.luau_grammar.specs.Places.{Place, first_symbol, symbol, sees}
 use Rattle.luau_grammar.specs.Expressions.{begins_suffix}
 use Rattle.luau_grammar.specs.Reading as read
 use Rattle.luau_grammar.specs.Reading.{Parser, Outcome, Readers, ◌>>=◌, and_then, start}
 use Rattle.luau_grammar.specs.ReadExpressions as code
-use Rattle.grammar_faults.specs.Fronts.{BeginFrom}
 use Rattle.grammar_faults.proofs.Local.{Shorter}
 use Rattle.grammar_faults.proofs.LocalTypes.{LocalReaders}
 use Rattle.grammar_faults.proofs.LocalExpressions as terms
-use Rattle.fault_places.proofs.Closing.{Frame, place, Beyond, Before, Late, top, roof, Far, Ends, Opens, AtCut, Closed, Claim, Idle, Goes, claim_far, claim_from, far_then, both_by, opens_by}
-use Rattle.fault_places.proofs.ClosingTokens.{anything, any, never, refused_before, claim_if, idle_if, idle_of_far, goes_by, opens_from}
-use Rattle.fault_places.proofs.ClosingSteps.{Reads, link, fewer}
+use Rattle.fault_places.proofs.Closing.{Frame, place, Beyond, Before, Late, top, roof, Far, Ends, Opens, AtCut, Claim, Idle, Goes, claim_far, claim_from, far_then, both_by, opens_by}
+use Rattle.fault_places.proofs.ClosingTokens.{anything, never, refused_before, claim_if, idle_if, idle_of_far}
+use Rattle.fault_places.proofs.ClosingSteps.{Reads, fewer}
 use Rattle.fault_places.proofs.ClosingWords.{the_name}
-use Rattle.fault_places.proofs.ClosingSymbols.{at_start}
 use Rattle.fault_places.proofs.ClosingLists.{Held, some_tails}
 use Rattle.fault_places.proofs.ClosingBodies.{sort, then_then}
 use Rattle.fault_places.proofs.ClosingTables.{turns_far}
-use Rattle.fault_places.proofs.ClosingSuffixes.{NoSuffix, no_suffix, suffix_goes, primary_sort}
+use Rattle.fault_places.proofs.ClosingSuffixes.{suffix_goes, primary_sort}
 
 module _ (f : Frame) (low high : Readers) (held : Held f low high) (local : LocalReaders some_tails low) (others : LocalReaders some_tails high) where
   abbrev going : Expr → Place → Bool

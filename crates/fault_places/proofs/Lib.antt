@@ -23,3 +23,7 @@ pub mod ClosingExpressions
 pub mod ClosingOperators
 pub mod ClosingTargets
 pub mod ClosingAssignments
+pub mod ClosingFunctions
+pub mod ClosingBlocks
+pub mod ClosingReaders
+pub mod ClosingFronts

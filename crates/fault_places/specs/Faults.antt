@@ -1,5 +1,5 @@
 -- The fault of a list of tokens that has no tree: what it is, and at which token.
-use Rattle.std.specs.Prelude.{◌≡◌, ℕ, ◌+◌, ◌==◌, Bool, true, not, ◌&&◌, ◌||◌, ◌⊎◌, List, [], ◌∷◌, ◌++◌, length, nat_le, nat_lt}
+use Rattle.std.specs.Prelude.{◌≡◌, ℕ, ◌+◌, ◌<◌, ◌==◌, Bool, true, not, ◌&&◌, ◌||◌, ◌⊎◌, List, [], ◌∷◌, ◌++◌, length, nat_le, nat_lt}
 use Rattle.luau_tree.specs.Tree.{Block}
 use Rattle.luau_lex.specs.Tokens.{Tok}
 use Rattle.luau_grammar.specs.declared.error.ParseError.{ParseError}
@@ -7,6 +7,11 @@ use Rattle.luau_grammar.specs.declared.error.ParseError.TheVariants.{Lex, NoMemo
 use Rattle.luau_grammar.specs.Places.{Rules}
 use Rattle.luau_grammar.specs.Modules.{IsBare, up_to, on_one_line, max_level}
 use Rattle.grammar_faults.specs.Fronts.{BeginFrom}
+
+-- tokens begin before an offset
+abbrev pub BeginBefore : ℕ → List Tok → Type 0
+BeginBefore at [] = Unit {0}
+BeginBefore at (t ∷ ts) = (t.span.start < at) × BeginBefore at ts
 
 -- Tokens, of which the last is named apart, begin a list with a tree. Behind them stand tokens that begin behind them.
 abbrev pub Begins : Rules → List Tok → Tok → Type 0

@@ -1,0 +1,248 @@
+-- What a parser does with the tokens of a prefix, whatever stands behind its last one.
+use Rattle.std.proofs.Common.{◌≡◌, ℕ, ◌+◌, Bool, true, false, List, [], ◌∷◌, ◌++◌, refl, sym, ap, subst, ◌⊎◌, inl, inr, arith, ap₂, true≢false, ◌&&◌, ◌||◌, leb-true, if◌then◌else◌}
+use Rattle.std.specs.Prelude.{Ok, Err, nat_le}
+use Rattle.luau_lex.specs.Tokens.{Tok}
+use Rattle.luau_grammar.specs.declared.error.ParseError.{ParseError}
+use Rattle.luau_grammar.specs.declared.error.ParseError.TheVariants.{Lex, NoMemory, Unexpected, UnexpectedEnd, AmbiguousCall, Nesting}
+use Rattle.luau_grammar.specs.declared.symbol.Symbol.{Symbol}
+use Rattle.luau_grammar.specs.declared.symbol.Symbol.TheVariants as s
+use Rattle.luau_grammar.specs.Symbols.{same, symbol_of}
+use Rattle.luau_grammar.specs.Places.{Place, symbol, sees, start_of}
+use Rattle.luau_grammar.specs.Reading.{Parser, ◌>>=◌, Outcome, and_then, start, last, level, set_level, span_from}
+use Rattle.grammar_faults.specs.Fronts.{BeginFrom}
+pub use Rattle.grammar_faults.proofs.Local.{IsLate, Far, Shorter, here, far_then, far_if, shorter_then, shorter_if, shorter_least}
+
+-- Two ways to go on behind a token, and where they begin.
+pub record Fork : Type 0 where
+  pub bound : ℕ
+  pub token : Tok
+  pub one : List Tok
+  pub other : List Tok
+  pub one_late : BeginFrom bound one
+  pub other_late : BeginFrom bound other
+
+-- two places at the token or before it
+pub record SamePlace (w : Fork) (p q : Place) : Type 0 where
+  pub between : List Tok
+  pub one : p.ahead ≡ between ++ w.token ∷ w.one
+  pub other : q.ahead ≡ between ++ w.token ∷ w.other
+  pub last : p.last ≡ q.last
+  pub level : p.level ≡ q.level
+
+abbrev pub Same : {A : Type 0} → Fork → Outcome A → Outcome A → Type 0
+Same w (Ok x) (Ok y) = (x.0 ≡ y.0) × SamePlace w x.1 y.1
+Same w (Ok x) (Err f) = ⊥
+Same w (Err e) (Ok y) = ⊥
+Same w (Err e) (Err f) = e ≡ f
+
+-- a token stands too deep
+abbrev pub Deep : ParseError → Type 0
+Deep (Nesting at) = Unit {0}
+Deep (Unexpected at) = ⊥
+Deep (UnexpectedEnd at) = ⊥
+Deep (AmbiguousCall at) = ⊥
+Deep (Lex e) = ⊥
+Deep NoMemory = ⊥
+
+abbrev pub IsDeep : {A : Type 0} → Outcome A → Type 0
+IsDeep (Ok x) = ⊥
+IsDeep (Err e) = Deep e
+
+-- Two outcomes are the same, or both are behind the token, or one of them is that something stands too deep.
+abbrev pub Near : {A : Type 0} → Fork → Outcome A → Outcome A → Type 0
+Near w o r = Same w o r ⊎ ((Far w.bound o × Far w.bound r) ⊎ (IsDeep o ⊎ IsDeep r))
+
+-- What a parser does depends on the tokens that it takes; it takes at least so many.
+pub record Forked {A : Type 0} (w : Fork) (k : ℕ) (r : Parser A) : Type 0 where
+  pub near : (p q : Place) → SamePlace w p q → Near w (r p) (r q)
+  pub one : (p : Place) → BeginFrom w.bound p.ahead → Far w.bound (r p)
+  pub takes : (p : Place) → Shorter k p (r p)
+
+-- a test depends on the next token
+abbrev pub Peeks : {C : Type 0} → Fork → (Place → C) → Type 0
+Peeks w c = (p q : Place) → SamePlace w p q → c p ≡ c q
+
+-- ---- places
+
+written : (w : Fork) (Holds : Place → Place → Type 0)
+    → ((l m : ℕ) → Holds (here w.token w.one l m) (here w.token w.other l m))
+    → ((t : Tok) (us : List Tok) (l m : ℕ) → Holds (here t (us ++ w.token ∷ w.one) l m) (here t (us ++ w.token ∷ w.other) l m))
+    → (us : List Tok) (l m : ℕ) → Holds (record { ahead = us ++ w.token ∷ w.one; last = l; level = m }) (record { ahead = us ++ w.token ∷ w.other; last = l; level = m })
+written w Holds end k [] l m = end l m
+written w Holds end k (t ∷ us) l m = k t us l m
+
+-- what holds of two places that are written out, holds of all
+pub same_places : {w : Fork} (Holds : Place → Place → Type 0)
+    → ((l m : ℕ) → Holds (here w.token w.one l m) (here w.token w.other l m))
+    → ((t : Tok) (us : List Tok) (l m : ℕ) → Holds (here t (us ++ w.token ∷ w.one) l m) (here t (us ++ w.token ∷ w.other) l m))
+    → (p q : Place) → SamePlace w p q → Holds p q
+same_places {w} Holds end k p q h =
+    subst (λ ts. Holds (record { ahead = ts; last = p.last; level = p.level }) q) (sym h.one)
+    (subst (λ ts. Holds (record { ahead = h.between ++ w.token ∷ w.one; last = p.last; level = p.level }) (record { ahead = ts; last = q.last; level = q.level })) (sym h.other)
+    (subst (λ z. Holds (record { ahead = h.between ++ w.token ∷ w.one; last = p.last; level = p.level }) (record { ahead = h.between ++ w.token ∷ w.other; last = z; level = q.level })) h.last
+    (subst (λ z. Holds (record { ahead = h.between ++ w.token ∷ w.one; last = p.last; level = p.level }) (record { ahead = h.between ++ w.token ∷ w.other; last = p.last; level = z })) h.level
+    (written w Holds end k h.between p.last p.level))))
+
+module _ {w : Fork} where
+  pub peeks_symbol : Peeks w symbol
+  unfolding symbol
+  peeks_symbol = same_places (λ p q. symbol p ≡ symbol q) (λ l m. refl) (λ t us l m. refl)
+
+  pub peeks_start : Peeks w start_of
+  unfolding start_of
+  peeks_start = same_places (λ p q. start_of p ≡ start_of q) (λ l m. refl) (λ t us l m. refl)
+
+  pub peeks_last : Peeks w (λ p. p.last)
+  peeks_last p q h = h.last
+
+  pub peeks_level : Peeks w (λ p. p.level)
+  peeks_level p q h = h.level
+
+  pub peeks_sees : (x : Symbol) → Peeks w (sees x)
+  unfolding sees
+  peeks_sees x p q h = ap (λ z. same z x) (peeks_symbol p q h)
+
+  pub peeks_const : {C : Type 0} (c : C) → Peeks w (λ _. c)
+  peeks_const c p q h = refl
+
+  pub peeks_of : {C D : Type 0} {c : Place → C} (f : C → D) → Peeks w c → Peeks w (λ p. f (c p))
+  peeks_of f k p q h = ap f (k p q h)
+
+  pub peeks_and : {c d : Place → Bool} → Peeks w c → Peeks w d → Peeks w (λ p. c p && d p)
+  peeks_and k l p q h = ap₂ (λ a b. a && b) (k p q h) (l p q h)
+
+  pub peeks_or : {c d : Place → Bool} → Peeks w c → Peeks w d → Peeks w (λ p. c p || d p)
+  peeks_or k l p q h = ap₂ (λ a b. a || b) (k p q h) (l p q h)
+
+-- ---- putting parsers together
+
+deep_then : {A B : Type 0} (f : A → Parser B) (o : Outcome A) → IsDeep o → IsDeep (and_then o f)
+deep_then f (Ok x) h = absurd h
+deep_then f (Err e) h = h
+
+pub near_then : {A B : Type 0} (w : Fork) (f g : A → Parser B) (o r : Outcome A) → Near w o r
+    → ((x : A) (p q : Place) → o ≡ Ok (x, p) → r ≡ Ok (x, q) → SamePlace w p q → Near w (f x p) (g x q))
+    → ((x : A) (p : Place) → BeginFrom w.bound p.ahead → Far w.bound (f x p))
+    → ((x : A) (p : Place) → BeginFrom w.bound p.ahead → Far w.bound (g x p))
+    → Near w (and_then o f) (and_then r g)
+near_then w f g (Ok x) (Ok y) (inl h) k one other =
+    subst (λ z. Near w (f x.0 x.1) (g z y.1)) h.0 (k x.0 x.1 y.1 refl (ap (λ z. Ok (z, y.1)) (sym h.0)) h.1)
+near_then w f g (Ok x) (Err e) (inl h) k one other = absurd h
+near_then w f g (Err e) (Ok x) (inl h) k one other = absurd h
+near_then w f g (Err e) (Err d) (inl h) k one other = inl h
+near_then w f g o r (inr (inl h)) k one other = inr (inl (far_then w.bound f o h.0 one, far_then w.bound g r h.1 other))
+near_then w f g o r (inr (inr (inl h))) k one other = inr (inr (inl (deep_then f o h)))
+near_then w f g o r (inr (inr (inr h))) k one other = inr (inr (inr (deep_then g r h)))
+
+pub near_if : {A : Type 0} (w : Fork) (b c : Bool) (o r m n : Outcome A) → b ≡ c → (b ≡ true → Near w o r) → (b ≡ false → Near w m n)
+    → Near w (if b then o else m) (if c then r else n)
+near_if w true true o r m n e h k = h refl
+near_if w false false o r m n e h k = k refl
+near_if w true false o r m n e h k = absurd (true≢false e)
+near_if w false true o r m n e h k = absurd (true≢false (sym e))
+
+-- what is taken, or stands too deep
+abbrev pub Taken : {A : Type 0} → ℕ → Outcome A → Type 0
+Taken bound o = Far bound o ⊎ IsDeep o
+
+pub taken_near : {A : Type 0} (w : Fork) (o r : Outcome A) → Taken w.bound o → Taken w.bound r → Near w o r
+taken_near w o r (inl h) (inl k) = inr (inl (h, k))
+taken_near w o r (inr h) k = inr (inr (inl h))
+taken_near w o r (inl h) (inr k) = inr (inr (inr k))
+
+pub taken_then : {A B : Type 0} (bound : ℕ) (f : A → Parser B) (o : Outcome A) → Taken bound o → ((x : A) (p : Place) → BeginFrom bound p.ahead → Far bound (f x p)) → Taken bound (and_then o f)
+taken_then bound f o (inl h) k = inl (far_then bound f o h k)
+taken_then bound f o (inr h) k = inr (deep_then f o h)
+
+pub taken_if : {A : Type 0} (bound : ℕ) (b : Bool) (o r : Outcome A) → (b ≡ true → Taken bound o) → (b ≡ false → Taken bound r) → Taken bound (if b then o else r)
+taken_if bound true o r h k = h refl
+taken_if bound false o r h k = k refl
+
+near_any : {A : Type 0} (w : Fork) (b c : Bool) (o r m n : Outcome A) → Taken w.bound o → Taken w.bound r → Taken w.bound m → Taken w.bound n
+    → Near w (if b then o else m) (if c then r else n)
+near_any w true true o r m n h i k l = taken_near w o r h i
+near_any w true false o r m n h i k l = taken_near w o n h l
+near_any w false true o r m n h i k l = taken_near w m r k i
+near_any w false false o r m n h i k l = taken_near w m n k l
+
+-- A test that looks at two tokens where the first is a name.
+pub record Peeks2 (w : Fork) (c : Place → Bool) : Type 0 where
+  pub inside : (t : Tok) (us : List Tok) (l m : ℕ) → c (here t (us ++ w.token ∷ w.one) l m) ≡ c (here t (us ++ w.token ∷ w.other) l m)
+  pub plain : same (symbol_of w.token) s.Name ≡ false → (l m : ℕ) → c (here w.token w.one l m) ≡ c (here w.token w.other l m)
+
+-- a parser takes a name, or it stands too deep
+pub record Names {A : Type 0} (w : Fork) (r : Parser A) : Type 0 where
+  pub taken : same (symbol_of w.token) s.Name ≡ true → (ts : List Tok) (l m : ℕ) → BeginFrom w.bound ts → Taken w.bound (r (here w.token ts l m))
+
+module _ {w : Fork} where
+  -- one parser, and then another
+  pub both : {A B : Type 0} {k n : ℕ} {r : Parser A} {f : A → Parser B} → Forked w k r → ((x : A) → Forked w n (f x)) → Forked w (k + n) (r >>= f)
+  both {k = k} {n = n} {r = r} {f = f} h g = record {
+    near = λ p q s. near_then w f f (r p) (r q) (h.near p q s) (λ x a b d e i. (g x).near a b i) (λ x. (g x).one) (λ x. (g x).one);
+    one = λ p l. far_then (w.bound) f (r p) (h.one p l) (λ x. (g x).one);
+    takes = λ p. shorter_then k n p f (r p) (h.takes p) (λ x. (g x).takes);
+  }
+
+  -- one of two, by a test
+  pub choose : {A : Type 0} {k : ℕ} {c : Place → Bool} {r s : Parser A} → Peeks w c → Forked w k r → Forked w k s → Forked w k (λ p. if c p then r p else s p)
+  choose {k = k} {c = c} {r = r} {s = s} t h g = record {
+    near = λ p q i. near_if w (c p) (c q) (r p) (r q) (s p) (s q) (t p q i) (λ _. h.near p q i) (λ _. g.near p q i);
+    one = λ p l. far_if (w.bound) (c p) (r p) (s p) (h.one p l) (g.one p l);
+    takes = λ p. shorter_if k p (c p) (r p) (s p) (h.takes p) (g.takes p);
+  }
+
+  edge : {A : Type 0} (c : Place → Bool) (r v : Parser A) → Peeks2 w c → Names w r → Names w v → ((p q : Place) → SamePlace w p q → Near w (r p) (r q)) → ((p q : Place) → SamePlace w p q → Near w (v p) (v q))
+      → (l m : ℕ) (b : Bool) → same (symbol_of w.token) s.Name ≡ b
+      → Near w (if c (here w.token w.one l m) then r (here w.token w.one l m) else v (here w.token w.one l m)) (if c (here w.token w.other l m) then r (here w.token w.other l m) else v (here w.token w.other l m))
+  edge c r v t h g near_r near_v l m false e =
+      let p = here w.token w.one l m in
+      let q = here w.token w.other l m in
+      let i : SamePlace w p q = record { between = []; one = refl; other = refl; last = refl; level = refl } in
+      near_if w (c p) (c q) (r p) (r q) (v p) (v q) (t.plain e l m) (λ _. near_r p q i) (λ _. near_v p q i)
+  edge c r v t h g near_r near_v l m true e =
+      let p = here w.token w.one l m in
+      let q = here w.token w.other l m in
+      near_any w (c p) (c q) (r p) (r q) (v p) (v q) (h.taken e w.one l m w.one_late) (h.taken e w.other l m w.other_late) (g.taken e w.one l m w.one_late) (g.taken e w.other l m w.other_late)
+
+  -- one of two, by such a test
+  pub choose2 : {A : Type 0} {k : ℕ} {r v : Parser A} (c : Place → Bool) → Peeks2 w c → Names w r → Names w v → Forked w k r → Forked w k v → Forked w k (λ p. if c p then r p else v p)
+  choose2 {k = k} {r = r} {v = v} c t h g a b = record {
+    near = same_places (λ p q. Near w (if c p then r p else v p) (if c q then r q else v q))
+        (λ l m. edge c r v t h g a.near b.near l m (same (symbol_of w.token) s.Name) refl)
+        (λ u us l m.
+        let p = here u (us ++ w.token ∷ w.one) l m in
+        let q = here u (us ++ w.token ∷ w.other) l m in
+        let i : SamePlace w p q = record { between = u ∷ us; one = refl; other = refl; last = refl; level = refl } in
+        near_if w (c p) (c q) (r p) (r q) (v p) (v q) (t.inside u us l m) (λ _. a.near p q i) (λ _. b.near p q i));
+    one = λ p l. far_if (w.bound) (c p) (r p) (v p) (a.one p l) (b.one p l);
+    takes = λ p. shorter_if k p (c p) (r p) (v p) (a.takes p) (b.takes p);
+  }
+
+  pub least : {A : Type 0} {n : ℕ} {r : Parser A} (k : ℕ) → nat_le k n ≡ true → Forked w n r → Forked w k r
+  least {n = n} {r = r} k e h = record { near = h.near; one = h.one; takes = λ p. shorter_least k n p (r p) (leb-true k n e) (h.takes p) }
+
+  -- what a place says
+  pub given : {C : Type 0} {c : Place → C} → Peeks w c → Forked w 0 (λ p. Ok (c p, p))
+  given t = record { near = λ p q i. inl (t p q i, i); one = λ p l. l; takes = λ p. omega arith }
+
+  pub done : {A : Type 0} (x : A) → Forked w 0 (λ p. Ok (x, p))
+  done x = given (peeks_const x)
+
+  pub at_start : Forked w 0 start
+  at_start = given peeks_start
+
+  pub at_last : Forked w 0 last
+  at_last = given peeks_last
+
+  pub at_here : Forked w 0 level
+  at_here = given peeks_level
+
+  pub at_span : (from : ℕ) → Forked w 0 (span_from from)
+  at_span from = given (λ p q h. ap (λ z. record { start = from; end = z }) h.last)
+
+  pub to_level : (at : ℕ) → Forked w 0 (set_level at)
+  to_level at = record {
+    near = λ p q i. inl (refl, record { between = i.between; one = i.one; other = i.other; last = i.last; level = refl });
+    one = λ p l. l;
+    takes = λ p. omega arith;
+  }

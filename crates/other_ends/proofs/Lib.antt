@@ -1,0 +1,10 @@
+pub mod Fork
+pub mod ForkCases
+pub mod ForkTokens
+pub mod ForkSteps
+pub mod ForkNames
+pub mod ForkTypes
+pub mod ForkExpressions
+pub mod ForkOperators
+pub mod ForkStatements
+pub mod ForkModules

@@ -1,0 +1,10 @@
+pub mod Beside
+pub mod BesideTokens
+pub mod BesideSteps
+pub mod BesideTypes
+pub mod BesideExpressions
+pub mod BesideOperators
+pub mod BesideStatements
+pub mod Starts
+pub mod BesideModules
+pub mod Unexpected
