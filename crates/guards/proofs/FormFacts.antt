@@ -5,6 +5,7 @@ use Rattle.luau_run.specs.ReadFolder.{local_of}
 use Rattle.luau_tree.specs.declared.names.BinOp.{BinOp}
 use Rattle.luau_tree.specs.declared.names.UnOp.{UnOp}
 use Rattle.luau_tree.specs.declared.names.UnOp.TheVariants.{Minus, Not, Length}
+use Rattle.luau_tree.specs.declared.position.Span.{Span}
 use Rattle.luau_tree.specs.declared.tree as code
 use Rattle.luau_tree.specs.declared.tree.ExprKind.TheVariants as an_expr
 use Rattle.luau_tree.specs.Tree as plain
@@ -96,3 +97,11 @@ pub other_means : (a : Arena) (h : Guard) (x : code.Expr.Expr) → ((name : List
     → ((op : UnOp) (e : code.Expr.Expr) → x.kind ≡ an_expr.Unary op e → ⊥) → ((op : BinOp) (l r : code.Expr.Expr) → x.kind ≡ an_expr.Binary op l r → ⊥)
     → h.when_true ≡ [] → h.when_false ≡ [] → (rules : Rules) → Means a h (made rules (view_expr x) true) (made rules (view_expr x) false)
 other_means a h x n p u b e f rules = means_as a h _ _ _ _ (nothing_means a h e f) (sym (of_other x n p u b rules true)) (sym (of_other x n p u b rules false))
+
+-- what two sides say together, of the plain tree
+pub sides_mean : (a : Arena) (g : Guard) (joins : Joins) (op : BinOp) → Some joins ≡ joins_of op → (rules : Rules) (id : ℕ) (span : Span) (l r : plain.Expr)
+    → Means a g (joined joins.on_true (made rules l true) (made rules r true)) (joined joins.on_false (made rules l false) (made rules r false))
+    → Means a g (made rules (plain.the_expr id span (plain.Binary op l r)) true) (made rules (plain.the_expr id span (plain.Binary op l r)) false)
+sides_mean a g joins op j rules id span l r m =
+    means_as a g _ _ _ _ m (ap (λ (o : Option Joins). sides_list o true (made rules l true) (made rules r true) (compared op true (equality rules l r))) j)
+    (ap (λ (o : Option Joins). sides_list o false (made rules l false) (made rules r false) (compared op false (equality rules l r))) j)

@@ -12,6 +12,7 @@ use Rattle.luau_tree.specs.declared.names.ExprId.{ExprId}
 use Rattle.luau_tree.specs.declared.names.LocalId.{LocalId}
 use Rattle.module_reading.specs.Names.{Reads, meaning_at, declared_from}
 use Rattle.type_arena.specs.Arena.{home_of, store_of}
+use Rattle.type_arena.specs.Meaning.{term_of}
 use Rattle.type_arena.specs.Store.{has}
 use Rattle.type_arena.specs.Term.{Term}
 use Rattle.type_arena.specs.declared.arena.Arena.{Arena}
@@ -20,7 +21,7 @@ use Rattle.type_normal.specs.Kinds.{unknown}
 use Rattle.report_rules.specs.Rules.{Rules, loose}
 use Rattle.report_rules.specs.Guard.{guard, guarded}
 use Rattle.type_normal.specs.Growing.{given_refs, IsClean}
-use Rattle.guards.specs.Guards.{guard_refs, AreOwn}
+use Rattle.guards.specs.Guards.{guard_refs, AreOwn, IsGuard}
 use Rattle.guards.specs.Lists.{meant, type_in, is_listed, has_local, refs_listed}
 use Rattle.guards.specs.Made.{made}
 use Rattle.guards.specs.Own.{IsOwn}
@@ -85,12 +86,14 @@ some_read uses locals = record {
   fixed = λ local. refl;
 }
 
+rises : (means : TypeRef → Term) (entries : List Pair) (rules : Rules) (e : Expr) (truth : Bool) → meant means entries ≡ made rules e truth → AscendFrom 0 (map (λ (x : Pair). x.0.0) entries)
+rises means entries rules e truth is =
+    subst (λ (ns : List ℕ). AscendFrom 0 ns) (locals_meant means entries)
+    (subst (λ (es : List (ℕ × Term)). AscendFrom 0 (map (λ (x : ℕ × Term). x.0) es)) (sym is) (ascends 0 (made rules e truth) (made_orderly rules e truth)))
+
 pub guard_ascends : (uses : List (ExprId × Found)) (locals : List LocalInfo) (means : TypeRef → Term) (entries : List Pair) (e : Expr) (truth : Bool)
     → ((rules : Rules) → Reads uses locals rules → meant means entries ≡ made rules e truth) → AscendFrom 0 (map (λ (x : Pair). x.0.0) entries)
-guard_ascends uses locals means entries e truth is =
-    let rules = some_rules uses locals in
-    subst (λ (ns : List ℕ). AscendFrom 0 ns) (locals_meant means entries)
-    (subst (λ (es : List (ℕ × Term)). AscendFrom 0 (map (λ (x : ℕ × Term). x.0) es)) (sym (is rules (some_read uses locals))) (ascends 0 (made rules e truth) (made_orderly rules e truth)))
+guard_ascends uses locals means entries e truth is = rises means entries (some_rules uses locals) e truth (is (some_rules uses locals) (some_read uses locals))
 
 -- the references of both lists
 pub guard_own : (a : Arena) (g : Guard) → AreOwn a g → All (IsOwn a) (guard_refs g)
@@ -101,3 +104,25 @@ own_there a refs own = All-weaker (IsOwn a) (λ at. IsTrue (has (store_of a) at)
 
 pub own_all_clean : (a b : Arena) (refs : List TypeRef) → home_of b ≡ home_of a → All (IsOwn b) refs → All (IsClean a b (given_refs [])) refs
 own_all_clean a b refs home own = All-weaker (IsOwn b) (IsClean a b (given_refs [])) (λ at o. clean_own a b at home o) refs own
+
+-- a guard of a condition
+pub true_says : (arena : Arena) (rules : Rules) (e : Expr) (g : Guard) → IsGuard arena rules e g → (local : ℕ) → type_in (meant (term_of (store_of arena)) g.when_true) local ≡ guard rules e true local
+true_says arena rules e g is = guard_says (term_of (store_of arena)) g.when_true rules e true is.when_true
+
+pub false_says : (arena : Arena) (rules : Rules) (e : Expr) (g : Guard) → IsGuard arena rules e g → (local : ℕ) → type_in (meant (term_of (store_of arena)) g.when_false) local ≡ guard rules e false local
+false_says arena rules e g is = guard_says (term_of (store_of arena)) g.when_false rules e false is.when_false
+
+pub true_has : (arena : Arena) (rules : Rules) (e : Expr) (g : Guard) → IsGuard arena rules e g → (local : ℕ) → has_local g.when_true local ≡ is_among local (guarded rules e)
+true_has arena rules e g is = guard_has (term_of (store_of arena)) g.when_true rules e true is.when_true
+
+pub false_has : (arena : Arena) (rules : Rules) (e : Expr) (g : Guard) → IsGuard arena rules e g → (local : ℕ) → has_local g.when_false local ≡ is_among local (guarded rules e)
+false_has arena rules e g is = guard_has (term_of (store_of arena)) g.when_false rules e false is.when_false
+
+pub true_firm : (arena : Arena) (rules : Rules) (e : Expr) (g : Guard) → IsGuard arena rules e g → (local : ℕ) → has_local g.when_true local ≡ true → loose rules local ≡ false
+true_firm arena rules e g is = guard_firm (term_of (store_of arena)) g.when_true rules e true is.when_true
+
+pub true_rises : (arena : Arena) (rules : Rules) (e : Expr) (g : Guard) → IsGuard arena rules e g → AscendFrom 0 (map (λ (x : Pair). x.0.0) g.when_true)
+true_rises arena rules e g is = rises (term_of (store_of arena)) g.when_true rules e true is.when_true
+
+pub false_rises : (arena : Arena) (rules : Rules) (e : Expr) (g : Guard) → IsGuard arena rules e g → AscendFrom 0 (map (λ (x : Pair). x.0.0) g.when_false)
+false_rises arena rules e g is = rises (term_of (store_of arena)) g.when_false rules e false is.when_false

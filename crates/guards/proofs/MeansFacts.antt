@@ -1,21 +1,24 @@
 -- What guards mean, from one call to the next.
 use Rattle.std.proofs.Common.{◌≡◌, ℕ, List, [], ◌∷◌, sym, ap, ◌∙◌, subst}
 use Rattle.std.specs.Prelude.{All, Result, Ok, Err, IfOk, OnErr}
-use Rattle.std.proofs.lemmas.List.Elements.{All-nil, All-cons}
+use Rattle.std.proofs.lemmas.List.Elements.{All-nil, All-cons, All-weaker}
+use Rattle.luau_tree.specs.Tree.{Expr}
 use Rattle.luau_tree.specs.declared.names.LocalId.{LocalId}
+use Rattle.report_rules.specs.Rules.{Rules}
 use Rattle.type_arena.specs.Arena.{store_of}
+use Rattle.type_arena.specs.Homes.{Given}
 use Rattle.type_arena.specs.Meaning.{term_of}
 use Rattle.type_arena.specs.Term.{Term}
 use Rattle.type_arena.specs.declared.arena.Arena.{Arena}
 use Rattle.type_arena.specs.declared.node.TypeRef.{TypeRef}
 use Rattle.type_normal.specs.Adds.{Adds}
 use Rattle.type_normal.specs.Growing.{given_refs}
-use Rattle.guards.specs.Guards.{AreOwn, Means}
+use Rattle.guards.specs.Guards.{AreOwn, Means, IsGuard}
 use Rattle.guards.specs.Lists.{meant, refs_listed}
 use Rattle.guards.specs.Own.{IsOwn, IsUnknown}
 use Rattle.guards.specs.declared.guarding.Guard.{Guard}
 use Rattle.guards.proofs.OwnFacts.{own_later, all_own_later}
-use Rattle.guards.proofs.SideFacts.{entries_mean}
+use Rattle.guards.proofs.SideFacts.{entries_mean, meant_same}
 
 abbrev Entries : Type 0
 Entries = List (ℕ × Term)
@@ -82,3 +85,17 @@ if_ok P Q (Err e) f p = tt
 pub on_err : {T E P : Type 0} (r : Result T E) → P → OnErr r P
 on_err (Ok x) p = tt
 on_err (Err e) p = p
+
+pub guard_stays_own : (a b : Arena) (given : Given) (xs : List TypeRef) → Adds a b given xs → (g : Guard) → AreOwn a g → AreOwn b g
+guard_stays_own a b given xs adds g own = record {
+  when_true = all_own_later a b given xs adds (refs_listed g.when_true) own.when_true;
+  when_false = all_own_later a b given xs adds (refs_listed g.when_false) own.when_false;
+}
+
+pub guard_stays : (a b : Arena) (given : Given) (xs : List TypeRef) → Adds a b given xs → (rules : Rules) (e : Expr) (g : Guard) → AreOwn a g → IsGuard a rules e g → IsGuard b rules e g
+guard_stays a b given xs adds rules e g own m = record { when_true = stays g.when_true own.when_true ∙ m.when_true; when_false = stays g.when_false own.when_false ∙ m.when_false }
+  where
+    stays : (entries : List Pair) → All (IsOwn a) (refs_listed entries) → meant (term_of (store_of b)) entries ≡ meant (term_of (store_of a)) entries
+    stays entries there =
+        meant_same (term_of (store_of b)) (term_of (store_of a)) entries
+        (All-weaker (IsOwn a) (λ at. term_of (store_of b) at ≡ term_of (store_of a) at) (λ at o. adds.kept at o.there) (refs_listed entries) there)

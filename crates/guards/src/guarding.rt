@@ -3,6 +3,7 @@ ghost use Rattle.std.specs.Prelude.{◌≡◌, ℕ, [], ◌∷◌, map, not, tru
 ghost use Rattle.luau_scope.specs.Laws.{AscendFrom};
 ghost use Rattle.luau_scope.specs.Locals.{is_among};
 ghost use Rattle.luau_tree.specs.View.{view_expr};
+ghost use Rattle.luau_tree.specs.declared.names.BinOp.TheVariants.{And, Or};
 ghost use Rattle.module_reading.specs.Names.{Reads};
 ghost use Rattle.report_rules.specs.Rules.{Rules, loose};
 ghost use Rattle.report_rules.specs.Guard.{guard, guarded, equality as equality_of};
@@ -12,7 +13,7 @@ ghost use Rattle.type_arena.specs.Store.{has as has_node};
 ghost use Rattle.type_normal.specs.Adds.{Adds};
 ghost use Rattle.type_normal.specs.Growing.{given_refs, IsClean};
 ghost use Rattle.guards.specs.Claims.{claim_type};
-ghost use Rattle.guards.specs.Guards.{guard_refs, AreOwn, Means};
+ghost use Rattle.guards.specs.Guards.{guard_refs, AreOwn, Means, IsGuard};
 ghost use Rattle.guards.specs.Lists.{meant, type_in, has_local, joined as joined_entries};
 ghost use Rattle.guards.specs.Made.{made, name_list, test_list, joins_of as joins_by, compared};
 ghost use Rattle.guards.specs.Own.{IsUnknown};
@@ -63,6 +64,10 @@ pub fn guard_of(
     ensures firm { IfOk result (λ g. (rules : Rules) → Reads scoped.now.uses scoped.now.locals rules → (local : ℕ) → has_local g.when_true local ≡ true → loose rules local ≡ false) }
     ensures true_ascends { IfOk result (λ g. AscendFrom 0 (map (λ entry. entry.0.0) g.when_true)) }
     ensures false_ascends { IfOk result (λ g. AscendFrom 0 (map (λ entry. entry.0.0) g.when_false)) }
+
+    // So it is a guard of the condition, as the laws on guards have it.
+    ensures says { IfOk result (λ g. (rules : Rules) → Reads scoped.now.uses scoped.now.locals rules → IsGuard arena.new rules (view_expr cond.now) g) }
+    ensures own { IfOk result (λ g. AreOwn arena.new g) }
 
     // The references are there. The arena only gets nodes, and each home that is reached from a reference is its own.
     ensures there { IfOk result (λ g. All (λ at. IsTrue (has_node (store_of arena.new) at)) (guard_refs g)) }
@@ -120,15 +125,29 @@ fn joins_of(op: BinOp) -> Option<Joins>
     ensures { result ≡ joins_by op }
 {
     match op {
-        BinOp::And => Some(Joins {
-            on_true: Join::Both,
-            on_false: Join::Either,
-        }),
-        BinOp::Or => Some(Joins {
-            on_true: Join::Either,
-            on_false: Join::Both,
-        }),
+        BinOp::And => Some(joins_of_and()),
+        BinOp::Or => Some(joins_of_or()),
         _ => None,
+    }
+}
+
+/// How `and` joins.
+pub(crate) fn joins_of_and() -> Joins
+    ensures { Some result ≡ joins_by And }
+{
+    Joins {
+        on_true: Join::Both,
+        on_false: Join::Either,
+    }
+}
+
+/// How `or` joins.
+pub(crate) fn joins_of_or() -> Joins
+    ensures { Some result ≡ joins_by Or }
+{
+    Joins {
+        on_true: Join::Either,
+        on_false: Join::Both,
     }
 }
 
@@ -143,8 +162,8 @@ fn nothing(alloc: Global) -> Guard
     }
 }
 
-// What is said where a condition comes out the other way.
-fn turned(guard: Guard) -> Guard
+/// What is said where a condition comes out the other way.
+pub(crate) fn turned(guard: Guard) -> Guard
     ensures when_true { result.when_true ≡ guard.when_false }
     ensures when_false { result.when_false ≡ guard.when_true }
 {
@@ -154,8 +173,8 @@ fn turned(guard: Guard) -> Guard
     }
 }
 
-// What two parts say together.
-fn together(
+/// What two parts say together.
+pub(crate) fn together(
     alloc: Global,
     arena: &mut Arena<'_>,
     unknown: TypeRef,

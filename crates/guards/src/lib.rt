@@ -4,10 +4,13 @@
 #![tactic(auto)]
 
 mod claims;
+mod combining;
 mod guarding;
 mod joining;
+pub mod laws;
 mod listing;
 mod naming;
 mod tests_of_locals;
 
+pub use combining::{and_guard, not_guard, or_guard};
 pub use guarding::{Guard, guard_of};
