@@ -1,0 +1,9 @@
+pub mod OwnFacts
+pub mod SideFacts
+pub mod PlainFacts
+pub mod MadeFacts
+pub mod FirmFacts
+pub mod TreeFacts
+pub mod MeansFacts
+pub mod FormFacts
+pub mod GuardFacts
