@@ -171,3 +171,60 @@ row_normal_at means (r ∷ rows) (suc i) d l e =
 
 pub row_normal : (means : TypeRef → Term) (rows : List Row) (i : ℕ) (r : Row) → i < length rows → r ≡ get_or rows i r → are_normal_rows (rows_by means rows) ≡ true → are_normal_fields (fields_by means r.fields) ≡ true
 row_normal means rows i r l is e = subst (λ (x : Row). are_normal_fields (fields_by means x.fields) ≡ true) (sym is) (row_normal_at means rows i r l e)
+
+-- what one field adds
+pub one_field : (store : Store) (fields uppers : List (List ℕ × TypeRef)) (i : ℕ) (u : List ℕ × TypeRef) (at : Option TypeRef) (answer : Bool) → i < length uppers → u ≡ get_or uppers i u → at ≡ listed_at u.0 fields
+    → Answers store (record { lower = at; upper = u.1 }) answer → are_normal_fields (fields_by (term_of store) fields) ≡ true
+    → fields_above (fields_by (term_of store) (drop i uppers)) (fields_by (term_of store) fields) ≡ answer && fields_above (fields_by (term_of store) (drop (i + 1) uppers)) (fields_by (term_of store) fields)
+one_field store fields uppers i u at answer l is listed says normal =
+    let type : type_at store at ≡ type_at store (listed_at u.0 fields) = ap (type_at store) listed in
+    let own : is_normal (type_at store at) ≡ true = ap is_normal (type ∙ listed_means store u.0 fields) ∙ listed_normal u.0 (fields_by (term_of store) fields) normal in
+    first_fields store fields uppers i u l is
+    ∙ ap (λ (b : Bool). b && fields_above (fields_by (term_of store) (drop (i + 1) uppers)) (fields_by (term_of store) fields)) (ap (is_above (term_of store u.1)) (sym type) ∙ sym (says own))
+
+-- what one row adds
+pub one_row : (store : Store) (rows uppers : List Row) (i : ℕ) (r : Row) (fields : List (List ℕ × TypeRef)) (answer : Bool) → i < length rows → r ≡ get_or rows i r → fields ≡ r.fields
+    → (are_normal_fields (fields_by (term_of store) fields) ≡ true → answer ≡ rows_above (rows_by (term_of store) uppers) r.frozen (fields_by (term_of store) fields))
+    → are_normal_rows (rows_by (term_of store) rows) ≡ true
+    → each_row (λ frozen fields. rows_above (rows_by (term_of store) uppers) frozen fields) (rows_by (term_of store) (drop i rows))
+    ≡ answer && each_row (λ frozen fields. rows_above (rows_by (term_of store) uppers) frozen fields) (rows_by (term_of store) (drop (i + 1) rows))
+one_row store rows uppers i r fields answer l is e says normal =
+    let own : are_normal_fields (fields_by (term_of store) fields) ≡ true = ap (λ (xs : List (List ℕ × TypeRef)). are_normal_fields (fields_by (term_of store) xs)) e ∙ row_normal (term_of store) rows i r l is normal in
+    first_row (term_of store) (λ frozen fields. rows_above (rows_by (term_of store) uppers) frozen fields) rows i r l is
+    ∙ ap (λ (b : Bool). b && each_row (λ frozen fields. rows_above (rows_by (term_of store) uppers) frozen fields) (rows_by (term_of store) (drop (i + 1) rows)))
+    (ap (λ (xs : List (List ℕ × TypeRef)). rows_above (rows_by (term_of store) uppers) r.frozen (fields_by (term_of store) xs)) (sym e) ∙ sym (says own))
+
+-- the lower type, by its reference
+pub by_free : (store : Store) → IsSound store → (lower : Option TypeRef) (b a : TypeRef) (n m : Node) (free : Bool) → lower ≡ Some a → node_at store a ≡ Some n → node_at store b ≡ Some m
+    → free ≡ free_below (free_of n) (free_of m) → free ≡ false → false ≡ is_above (term_of store b) (type_at store lower)
+by_free store sound lower b a n m free is e f has fails =
+    sym (ends_and free _ _ _ (ap (λ (x : Bool). x && each_row (λ frozen fields. rows_above (rows_by (term_of store) m.rows) frozen fields) (rows_by (term_of store) n.rows)) (sym has)) fails
+    (ap (λ (at : Option TypeRef). is_above (term_of store b) (type_at store at)) is ∙ above_by_nodes store sound a b n m e f))
+
+pub by_rows : (store : Store) → IsSound store → (lower : Option TypeRef) (b a : TypeRef) (n m : Node) (free answer : Bool) (rows uppers : List Row) → lower ≡ Some a → node_at store a ≡ Some n → node_at store b ≡ Some m
+    → free ≡ free_below (free_of n) (free_of m) → free ≡ true → rows ≡ n.rows → uppers ≡ m.rows
+    → (are_normal_rows (rows_by (term_of store) rows) ≡ true → answer ≡ each_row (λ frozen fields. rows_above (rows_by (term_of store) uppers) frozen fields) (rows_by (term_of store) rows))
+    → is_normal (type_at store lower) ≡ true → answer ≡ is_above (term_of store b) (type_at store lower)
+by_rows store sound lower b a n m free answer rows uppers is e f has good er eu says normal =
+    let own : are_normal_rows (rows_by (term_of store) rows) ≡ true =
+    ap (λ (xs : List Row). are_normal_rows (rows_by (term_of store) xs)) er ∙ normal_rows_of store sound a n e (ap (λ (at : Option TypeRef). is_normal (type_at store at)) (sym is) ∙ normal) in
+    let each : answer ≡ each_row (λ frozen fields. rows_above (rows_by (term_of store) m.rows) frozen fields) (rows_by (term_of store) n.rows) =
+    says own ∙ (λ i. each_row (λ frozen fields. rows_above (rows_by (term_of store) (eu i)) frozen fields) (rows_by (term_of store) (er i))) in
+    each
+    ∙ sym (past_and free _ _ _ (ap (λ (x : Bool). x && each_row (λ frozen fields. rows_above (rows_by (term_of store) m.rows) frozen fields) (rows_by (term_of store) n.rows)) (sym has)) good
+    (ap (λ (at : Option TypeRef). is_above (term_of store b) (type_at store at)) is ∙ above_by_nodes store sound a b n m e f))
+
+-- unknown as the lower type
+pub all_by_free : (store : Store) → IsSound store → (lower : Option TypeRef) (b : TypeRef) (m : Node) (free : Bool) → lower ≡ None → node_at store b ≡ Some m
+    → free ≡ free_below all_values (free_of m) → free ≡ false → false ≡ is_above (term_of store b) (type_at store lower)
+all_by_free store sound lower b m free is f has fails =
+    sym (ends_and free _ _ _ (ap (λ (x : Bool). x && (rows_above (rows_by (term_of store) m.rows) false no_fields && true)) (sym has)) fails
+    (ap (λ (at : Option TypeRef). is_above (term_of store b) (type_at store at)) is ∙ above_unknown store sound b m f))
+
+pub all_by_rows : (store : Store) → IsSound store → (lower : Option TypeRef) (b : TypeRef) (m : Node) (free answer : Bool) (uppers : List Row) → lower ≡ None → node_at store b ≡ Some m
+    → free ≡ free_below all_values (free_of m) → free ≡ true → uppers ≡ m.rows → (true ≡ true → answer ≡ rows_above (rows_by (term_of store) uppers) false no_fields)
+    → answer ≡ is_above (term_of store b) (type_at store lower)
+all_by_rows store sound lower b m free answer uppers is f has good eu says =
+    says refl ∙ ap (λ (xs : List Row). rows_above (rows_by (term_of store) xs) false no_fields) eu ∙ sym (and_true _)
+    ∙ sym (past_and free _ _ _ (ap (λ (x : Bool). x && (rows_above (rows_by (term_of store) m.rows) false no_fields && true)) (sym has)) good
+    (ap (λ (at : Option TypeRef). is_above (term_of store b) (type_at store at)) is ∙ above_unknown store sound b m f))

@@ -159,8 +159,8 @@ fn fields_below<N: Nodes>(
     true
 }
 
-// The type that a row lists for a field.
-fn listed(fields: &[(Label, TypeRef)], name: &Label) -> Option<TypeRef>
+/// The type that a row lists for a field.
+pub fn listed(fields: &[(Label, TypeRef)], name: &Label) -> Option<TypeRef>
     ensures { result ≡ listed_at name.now fields.now }
 {
     for field in fields {

@@ -10,7 +10,7 @@ use std::cmp::Ordering;
 use type_arena::{Among, Node};
 
 /// Whether each value of the free part of a node belongs to that of another one.
-pub(crate) fn is_free_below(lower: &Node, upper: &Node) -> bool
+pub fn is_free_below(lower: &Node, upper: &Node) -> bool
     ensures { result ≡ free_below (free_of lower.now) (free_of upper.now) }
 {
     let kinds = (!lower.nil | upper.nil)
@@ -24,7 +24,7 @@ pub(crate) fn is_free_below(lower: &Node, upper: &Node) -> bool
 }
 
 /// Whether all values but tables belong to the free part of a node.
-pub(crate) fn has_all_values(node: &Node) -> bool
+pub fn has_all_values(node: &Node) -> bool
     ensures { result ≡ free_below all_values (free_of node.now) }
 {
     let kinds = node.nil & node.truth & node.falsity & node.number & node.other;

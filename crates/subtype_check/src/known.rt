@@ -3,10 +3,10 @@ ghost use Rattle.std.specs.Prelude.{◌≡◌, ◌<◌, length, slice_set, ℕ, 
 use type_arena::TypeRef;
 
 /// Two types of which the one may be below the other. Where the lower one isn't given, it is unknown.
-#[derive(Clone, Copy, Debug, PartialEq, Eq)]
-pub(crate) struct Pair {
-    pub(crate) lower: Option<TypeRef>,
-    pub(crate) upper: TypeRef,
+#[derive(Clone, Copy, Debug, PartialEq, Eq, Hash)]
+pub struct Pair {
+    pub lower: Option<TypeRef>,
+    pub upper: TypeRef,
 }
 
 /// Two types, and whether the lower one is below the upper one.

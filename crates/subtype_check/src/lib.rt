@@ -9,7 +9,9 @@ pub mod laws;
 mod samples;
 pub mod telling;
 
-pub use checking::below;
+pub use checking::{below, listed};
+pub use free::{has_all_values, is_free_below};
+pub use known::Pair;
 pub use samples::{Sample, apart};
 
 #[cfg(test)]
