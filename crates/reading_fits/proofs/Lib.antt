@@ -1,0 +1,15 @@
+pub mod Told
+pub mod Visits
+pub mod Whole
+pub mod Inside
+pub mod Locals
+pub mod FitBodies
+pub mod Requires
+pub mod Targets
+pub mod FitStats
+pub mod Breaks
+pub mod Calls
+pub mod Modules
+pub mod Folders
+pub mod ReportedPlaces
+pub mod FolderAnalysis

@@ -1,0 +1,2 @@
+pub mod OfFolder
+pub mod FolderAnalysis

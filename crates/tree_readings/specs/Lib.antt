@@ -1,0 +1,3 @@
+pub mod Paths
+pub mod Apart
+pub mod FromTrees
