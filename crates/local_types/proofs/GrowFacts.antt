@@ -247,3 +247,25 @@ made_from a at other made there = made_one a [] other (λ test within homes. mad
 
 pub made_from_two : (a : LocalTypes) (x y other : TypeRef) → IsMadeOf a (x ∷ y ∷ []) other → IsMadeOf a [] x → IsMadeOf a [] y → AreMadeOf a [] (other ∷ [])
 made_from_two a x y other made first second = made_one a [] other (λ test within homes. made test within (made_two a [] x y first second test within homes))
+
+-- what may be used where only a literal of the own home is given may be used where nothing is
+may_own : (arena : Arena) (own : ℕ) → own ≡ home_of arena → (home : ℕ) → MayUse (store_of arena) (home_of arena) (record { refs = []; literals = own ∷ [] }) home → MayUse (store_of arena) (home_of arena) (given_refs []) home
+may_own arena own e home own_home = own_home
+may_own arena own e home (given_literal h inside) =
+    let alone : All (λ x. x ≡ home_of arena) (own ∷ []) = All-cons (λ x. x ≡ home_of arena) own [] e (All-nil (λ x. x ≡ home_of arena)) in
+    subst (λ (x : ℕ). MayUse (store_of arena) (home_of arena) (given_refs []) x) (sym (All-contains (λ x. x ≡ home_of arena) (own ∷ []) home alone inside)) own_home
+may_own arena own e home (reached at h inside way) = let l : inside.0 < 0 = inside.1 in absurd (omega arith)
+
+-- a call that is given one literal of the own home is given nothing else
+pub own_literal : (old new : Arena) (own : ℕ) (answers : List TypeRef) → own ≡ home_of old → Adds old new (record { refs = []; literals = own ∷ [] }) answers → Adds old new (given_refs []) answers
+own_literal old new own answers e adds = record {
+  below = adds.below;
+  home = adds.home;
+  keeps = adds.keeps;
+  kept = adds.kept;
+  homes = record {
+    answered = λ k at is. may_own old own e _ (adds.homes.answered k at is);
+    refs = λ at node is none k child inside. may_own old own e _ (adds.homes.refs at node is none k child inside);
+    literals = λ at node is none k home inside. may_own old own e _ (adds.homes.literals at node is none k home inside);
+  };
+}

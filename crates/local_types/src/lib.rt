@@ -5,6 +5,7 @@ mod adding;
 mod changes;
 mod changing;
 mod combining;
+mod made;
 mod node;
 mod reading;
 mod single;

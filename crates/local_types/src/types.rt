@@ -9,7 +9,7 @@ use type_arena::Arena;
 /// ones, and those that were made before keep what they have.
 #[derive(Drop)]
 pub struct LocalTypes<'a> {
-    pub(crate) arena: Arena<'a>,
+    pub arena: Arena<'a>,
     pub(crate) nodes: Vec<MapNode>,
     ghost there: { TypesAreThere (store_of arena) nodes.items } by { Prim.hlevel props },
     ghost before: { PartsComeBefore nodes.items } by { Prim.hlevel props },
