@@ -18,11 +18,7 @@ use type_fields::{Operation, Plain};
 
 impl<'a> LocalTypes<'a> {
     /// The values of some kinds.
-    pub fn plain(
-        &mut self,
-        alloc: Global,
-        kind: Plain,
-    ) -> Result<TypeRef, AllocError>
+    pub fn plain(&mut self, alloc: Global, kind: Plain) -> Result<TypeRef, AllocError>
         ensures term { IfOk result (λ at. type_of self.new at ≡ plain_term kind) }
         ensures there { IfOk result (λ at. IsTrue (has_node (arenas_of self.new) at)) }
         ensures made { IfOk result (IsMadeOf self.old []) }
@@ -33,11 +29,7 @@ impl<'a> LocalTypes<'a> {
     }
 
     /// One string.
-    pub fn text(
-        &mut self,
-        alloc: Global,
-        bytes: Label,
-    ) -> Result<TypeRef, AllocError>
+    pub fn text(&mut self, alloc: Global, bytes: Label) -> Result<TypeRef, AllocError>
         ensures term { IfOk result (λ at. type_of self.new at ≡ text_term bytes) }
         ensures there { IfOk result (λ at. IsTrue (has_node (arenas_of self.new) at)) }
         ensures made { IfOk result (IsMadeOf self.old []) }
@@ -48,12 +40,7 @@ impl<'a> LocalTypes<'a> {
     }
 
     /// What a field of a table of a type reads as.
-    pub fn field(
-        &mut self,
-        alloc: Global,
-        a: TypeRef,
-        name: &Label,
-    ) -> Result<TypeRef, AllocError>
+    pub fn field(&mut self, alloc: Global, a: TypeRef, name: &Label) -> Result<TypeRef, AllocError>
         requires { IsTrue (has_node (arenas_of self.old) a) }
         ensures term { IfOk result (λ at. type_of self.new at ≡ field_term name.now (type_of self.old a)) }
         ensures there { IfOk result (λ at. IsTrue (has_node (arenas_of self.new) at)) }
@@ -65,11 +52,7 @@ impl<'a> LocalTypes<'a> {
     }
 
     /// The frozen ones among the tables of a type.
-    pub fn frozen_rows(
-        &mut self,
-        alloc: Global,
-        a: TypeRef,
-    ) -> Result<TypeRef, AllocError>
+    pub fn frozen_rows(&mut self, alloc: Global, a: TypeRef) -> Result<TypeRef, AllocError>
         requires { IsTrue (has_node (arenas_of self.old) a) }
         ensures term { IfOk result (λ at. type_of self.new at ≡ frozen_term (type_of self.old a)) }
         ensures there { IfOk result (λ at. IsTrue (has_node (arenas_of self.new) at)) }
@@ -100,11 +83,7 @@ impl<'a> LocalTypes<'a> {
     }
 
     /// What fails for certain where a value of a type is wanted.
-    pub fn fail(
-        &mut self,
-        alloc: Global,
-        a: TypeRef,
-    ) -> Result<TypeRef, AllocError>
+    pub fn fail(&mut self, alloc: Global, a: TypeRef) -> Result<TypeRef, AllocError>
         requires { IsTrue (has_node (arenas_of self.old) a) }
         ensures term { IfOk result (λ at. type_of self.new at ≡ fail_term (type_of self.old a)) }
         ensures there { IfOk result (λ at. IsTrue (has_node (arenas_of self.new) at)) }
@@ -116,11 +95,7 @@ impl<'a> LocalTypes<'a> {
     }
 
     /// The values with which an operation fails.
-    pub fn failing(
-        &mut self,
-        alloc: Global,
-        operation: Operation,
-    ) -> Result<TypeRef, AllocError>
+    pub fn failing(&mut self, alloc: Global, operation: Operation) -> Result<TypeRef, AllocError>
         ensures term { IfOk result (λ at. type_of self.new at ≡ failing_term operation) }
         ensures there { IfOk result (λ at. IsTrue (has_node (arenas_of self.new) at)) }
         ensures made { IfOk result (IsMadeOf self.old []) }
@@ -152,8 +127,7 @@ impl<'a> LocalTypes<'a> {
     pub fn row(
         &mut self,
         alloc: Global,
-        fields: List<(Label,
-        TypeRef)>,
+        fields: List<(Label, TypeRef)>,
     ) -> Result<TypeRef, AllocError>
         requires { All (λ child. IsTrue (has_node (arenas_of self.old) child)) (field_types fields) }
         ensures term { IfOk result (λ at. type_of self.new at ≡ row_term false (fields_by (type_of self.old) fields)) }
@@ -166,11 +140,7 @@ impl<'a> LocalTypes<'a> {
     }
 
     /// One builtin, by its path.
-    pub fn builtin(
-        &mut self,
-        alloc: Global,
-        path: Label,
-    ) -> Result<TypeRef, AllocError>
+    pub fn builtin(&mut self, alloc: Global, path: Label) -> Result<TypeRef, AllocError>
         ensures term { IfOk result (λ at. type_of self.new at ≡ named_term (builtin_name path)) }
         ensures there { IfOk result (λ at. IsTrue (has_node (arenas_of self.new) at)) }
         ensures made { IfOk result (IsMadeOf self.old []) }
@@ -181,12 +151,7 @@ impl<'a> LocalTypes<'a> {
     }
 
     /// The functions of one literal of the arena's own home, by the number of its body.
-    pub fn literal(
-        &mut self,
-        alloc: Global,
-        home: u32,
-        number: u32,
-    ) -> Result<TypeRef, AllocError>
+    pub fn literal(&mut self, alloc: Global, home: u32, number: u32) -> Result<TypeRef, AllocError>
         requires { home ≡ home_of (arena_of self.old) }
         ensures term { IfOk result (λ at. type_of self.new at ≡ named_term (literal_name home number)) }
         ensures there { IfOk result (λ at. IsTrue (has_node (arenas_of self.new) at)) }
