@@ -1,0 +1,12 @@
+pub mod LogFacts
+pub mod MadeFacts
+pub mod RowFacts
+pub mod PropFacts
+pub mod FormFacts
+pub mod JoinedFacts
+pub mod VisibleFacts
+pub mod WalkFacts
+pub mod WeightFacts
+pub mod PutFacts
+pub mod ParamFacts
+pub mod AnnotationFacts
