@@ -1,0 +1,205 @@
+-- What the proof says of the layers of a straight program, and so of its runs.
+use Rattle.std.proofs.Common.{◌≡◌, ◌<◌, ◌+◌, ℕ, zero, suc, true, false, List, [], length, Option, Some, None, inr, refl, sym, ◌∙◌, ap, subst, arith, codes, slice_get, Contains}
+use Rattle.std.specs.List.{AllByRecursion}
+use Rattle.luau_values.specs.Value.{Value, Nil, Builtin}
+use Rattle.luau_values.specs.Grows.{Grows}
+use Rattle.luau_tree.specs.Tree.{Expr, the_expr, Stat, the_stat, Body}
+use Rattle.luau_run.specs.ReadModule.{ReadModule}
+use Rattle.luau_run.specs.SyntaxNode.{ABody, of_block, of_expr, of_stat}
+use Rattle.luau_run.specs.Machine.{Answer, State, Ran, Gave, Spent, Part, spend, activate}
+use Rattle.luau_run.specs.Layer.{Frame, Ending, Falls, Breaks, Continues, Returns, Layer}
+use Rattle.luau_run.specs.Calls.{block, frame_of, enter_module}
+use Rattle.luau_run.specs.Expressions.{values}
+use Rattle.luau_run.specs.Statements.{stat}
+use Rattle.luau_run.specs.Run.{next, lowest, layer_of, start, run, end_of}
+use Rattle.luau_run.specs.Certain.{Certain}
+use Rattle.luau_run.proofs.FreezeFacts.{freeze_call_grows}
+use Rattle.type_normal.specs.Holds.{holds}
+use Rattle.report_rules.specs.Rules.{Rules}
+use Rattle.report_rules.specs.TypeMap.{TypeMap, no_map}
+use Rattle.report_rules.specs.Seen.{seen_expr, seen_stat, seen_block}
+use Rattle.report_rules.specs.Context.{Context, none}
+use Rattle.report_rules.specs.Checks.{ReportKind}
+use Rattle.report_rules.specs.Statements.{stm}
+use Rattle.report_rules.specs.Findings.{found, found_stat, found_block}
+use Rattle.report_rules.specs.Reports.{findings}
+use Rattle.run_frame.specs.Analysis.{Analysis}
+use Rattle.run_frame.specs.Statements.{stats_of_block, stats_of, stats_of_expr}
+use Rattle.run_frame.specs.Fit.{Fit}
+use Rattle.run_frame.proofs.World.{World, no_world, with_module}
+use Rattle.run_frame.proofs.Counts.{reached}
+use Rattle.run_frame.proofs.Kept.{nobody}
+use Rattle.run_frame.proofs.Fine.{Sub, Fine}
+use Rattle.run_frame.proofs.Held.{Runs, Held}
+use Rattle.run_frame.proofs.Parts.{Ends, ends_so, gave_not_spent}
+use Rattle.run_frame.proofs.Activations.{one_begun, fine_begun, runs_begun, held_begun, ends_activate}
+use Rattle.run_frame.proofs.AtEnd.{fine_start, certain_of}
+use Rattle.run_frame.proofs.Layers.{rules_of, seen_of, expr_of, stat_of, block_of, Inside, Placed, Marked, Gives, Leads, Pays, EndsBad, Trouble, Forward, Backward}
+use Rattle.run_frame.proofs.LooseContexts.{SparesAll, spare_none}
+use Rattle.run_frame.proofs.Readings.{all_contained, all_at}
+use Rattle.run_frame.proofs.Passing.{none_violated}
+use Rattle.run_frame.proofs.Blocks.{BlockLeads, block_forward, block_backward}
+use Rattle.straight_certain.specs.Straight.{IsStraightNode, IsStraightModule, IsStraight}
+use Rattle.straight_certain.proofs.BuiltinActs.{acts_forward}
+use Rattle.straight_certain.proofs.BuiltinCalls.{NoBodies, call_forward}
+use Rattle.straight_certain.proofs.CallForms.{Freezes}
+use Rattle.straight_certain.proofs.Closed.{closed, block_closed, values_closed, stat_closed}
+use Rattle.straight_certain.proofs.StraightForms.{expr_straight, stat_straight, values_forward, stat_forward, values_pays, stat_pays}
+
+-- ---- what holds of each layer
+
+-- no function body stands in a straight program
+no_bodies : (an : Analysis) → IsStraight an.program → NoBodies an
+no_bodies an straight m reading e code c = off (all_contained (IsStraightNode reading) (of_block reading.block) (ABody code) (all_at IsStraightModule an.program.modules m reading straight e).nodes c)
+  where
+    off : false ≡ true → ⊥
+    off k = cc
+
+freezes_at : (an : Analysis) (depth : ℕ) → Freezes (closed (layer_of an.program depth))
+freezes_at an depth args vs s t e = subst (λ (r : Ran (List Value)). Grows s.store.heap (end_of r).store.heap) e (freeze_call_grows an.program depth args s)
+
+lowest_forward : (an : Analysis) → Forward an (closed lowest)
+unfolding spend
+lowest_forward an = record {
+  values = λ w s frame map e f r h inside placed. f.stays;
+  stat = λ w s frame map st f r h inside placed. f.stays;
+  turns = λ w s frame map loop f r h steady inside placed there. f.stays;
+  call = λ w s callee args f there all. f.stays;
+  require = λ w s at other f q. f.stays;
+  acts = λ w s freedom aim f. f.stays;
+}
+
+lowest_backward : (an : Analysis) → Backward an (closed lowest)
+unfolding spend
+lowest_backward an = record {
+  values = λ w s frame map e around f r h inside placed marked vs t q. absurd (gave_not_spent s t vs q);
+  stat = λ w s frame map st behind breaks_to continues_to f r h inside placed marked spares ending t q y. absurd (gave_not_spent s t ending q);
+  turns = λ w s frame map loop behind kept f r h steady steady_context below inside placed marked spares spares_kept there ending t q y. absurd (gave_not_spent s t ending q);
+}
+
+module _ (an : Analysis) (fit : Fit an) (straight : IsStraight an.program) (depth : ℕ) (fwd : Forward an (closed (layer_of an.program depth))) (bwd : Backward an (closed (layer_of an.program depth))) where
+  next_forward : Forward an (closed (layer_of an.program (suc depth)))
+  unfolding spend
+  next_forward = record {
+    values = λ w s frame map e f r h inside placed. by_expr w s frame map e f r h inside placed;
+    stat = λ w s frame map st f r h inside placed. by_stat w s frame map st f r h inside placed;
+    turns = λ w s frame map loop f r h steady inside placed there. f.stays;
+    call = λ w s callee args f there all. call_forward an depth (no_bodies an straight) fwd.acts w s callee args f all;
+    require = λ w s at other f q. f.stays;
+    acts = λ w s freedom aim f. acts_forward an (layer_of an.program depth) fwd.call fwd.acts w s freedom aim f;
+  }
+    where
+      by_expr : (w : World) (s : State) (frame : Frame) (map : TypeMap) (e : Expr) → Fine an w s → Runs an w s frame → Held an frame map s → Inside frame (of_expr e) (stats_of_expr e)
+          → Placed an frame (seen_expr (rules_of an frame) map e) → Ends an (expr_of an frame e) w s (Gives an frame map e) (values an.program (layer_of an.program depth) frame e s)
+      by_expr w s frame map (the_expr id span kind) f r h inside placed = subst (λ (p : Part (List Value)). Ends an (expr_of an frame (the_expr id span kind)) w s (Gives an frame map (the_expr id span kind)) (p s))
+          (values_closed an.program (layer_of an.program depth) frame id span kind (expr_straight an w s frame id span kind straight r inside))
+          (values_forward an (closed (layer_of an.program depth)) fit straight fwd (freezes_at an depth) w s frame map id span kind f r h inside placed)
+
+      by_stat : (w : World) (s : State) (frame : Frame) (map : TypeMap) (st : Stat) → Fine an w s → Runs an w s frame → Held an frame map s → Inside frame (of_stat st) (stats_of st)
+          → Placed an frame (seen_stat (rules_of an frame) map st) → Ends an (stat_of an frame st) w s (Leads an frame map st) (stat an.program (layer_of an.program depth) frame st s)
+      by_stat w s frame map (the_stat span kind) f r h inside placed = subst (λ (p : Part Ending). Ends an (stat_of an frame (the_stat span kind)) w s (Leads an frame map (the_stat span kind)) (p s))
+          (stat_closed an.program (layer_of an.program depth) frame span kind (stat_straight an w s frame span kind straight r inside))
+          (stat_forward an (closed (layer_of an.program depth)) fit straight fwd (freezes_at an depth) w s frame map span kind f r h inside placed)
+
+  next_backward : Backward an (closed (layer_of an.program (suc depth)))
+  unfolding spend
+  next_backward = record {
+    values = λ w s frame map e around f r h inside placed marked vs t q. by_expr w s frame map e around f r h inside placed marked vs t q;
+    stat = λ w s frame map st behind breaks_to continues_to f r h inside placed marked spares ending t q y.
+        by_stat w s frame map st behind breaks_to continues_to f r h inside placed marked spares ending t q y;
+    turns = λ w s frame map loop behind kept f r h steady steady_context below inside placed marked spares spares_kept there ending t q y. absurd (gave_not_spent s t ending q);
+  }
+    where
+      by_expr : (w : World) (s : State) (frame : Frame) (map : TypeMap) (e : Expr) (around : List ReportKind) → Fine an w s → Runs an w s frame → Held an frame map s
+          → Inside frame (of_expr e) (stats_of_expr e) → Placed an frame (seen_expr (rules_of an frame) map e) → Marked an frame (found (rules_of an frame) (seen_of an frame) around e)
+          → (vs : List Value) (t : State) → values an.program (layer_of an.program depth) frame e s ≡ Gave vs t → Pays an frame e s vs t
+      by_expr w s frame map (the_expr id span kind) around f r h inside placed marked vs t q =
+          values_pays an (closed (layer_of an.program depth)) fit straight fwd bwd w s frame map id span kind around f r h inside placed marked vs t
+          (ap (λ (p : Part (List Value)). p s) (values_closed an.program (layer_of an.program depth) frame id span kind (expr_straight an w s frame id span kind straight r inside)) ∙ q)
+
+      by_stat : (w : World) (s : State) (frame : Frame) (map : TypeMap) (st : Stat) (behind breaks_to continues_to : Context) → Fine an w s → Runs an w s frame → Held an frame map s
+          → Inside frame (of_stat st) (stats_of st) → Placed an frame (seen_stat (rules_of an frame) map st)
+          → Marked an frame (found_stat (rules_of an frame) (seen_of an frame) st behind breaks_to continues_to) → SparesAll (rules_of an frame) behind breaks_to continues_to
+          → (ending : Ending) (t : State) → stat an.program (layer_of an.program depth) frame st s ≡ Gave ending t
+          → Trouble an frame (stm (rules_of an frame) (seen_of an frame) st behind breaks_to continues_to) s t → EndsBad an frame behind breaks_to continues_to ending t
+      by_stat w s frame map (the_stat span kind) behind breaks_to continues_to f r h inside placed marked spares ending t q y =
+          stat_pays an (closed (layer_of an.program depth)) fit straight fwd bwd w s frame map span kind behind breaks_to continues_to f r h inside placed marked spares ending t
+          (ap (λ (p : Part Ending). p s) (stat_closed an.program (layer_of an.program depth) frame span kind (stat_straight an w s frame span kind straight r inside)) ∙ q) y
+
+-- each layer does what the proof says
+pub sound : (an : Analysis) → Fit an → IsStraight an.program → (depth : ℕ) → Forward an (closed (layer_of an.program depth)) × Backward an (closed (layer_of an.program depth))
+sound an fit straight zero = (lowest_forward an, lowest_backward an)
+sound an fit straight (suc depth) =
+    let p : Forward an (closed (layer_of an.program depth)) × Backward an (closed (layer_of an.program depth)) = sound an fit straight depth in
+    (next_forward an fit straight depth p.0 p.1, next_backward an fit straight depth p.0 p.1)
+
+-- ---- a run
+
+-- where no context stands behind, no end is bad
+no_bad_end : (an : Analysis) (frame : Frame) (ending : Ending) (t : State) → EndsBad an frame none none none ending t → ⊥
+no_bad_end an frame Falls t h = none_violated an frame t h
+no_bad_end an frame Breaks t h = none_violated an frame t h
+no_bad_end an frame Continues t h = none_violated an frame t h
+no_bad_end an frame (Returns vs) t h = h
+
+zero_or_more : (n : ℕ) (P : Type 0) → (n ≡ 0 → P) → (0 < n → P) → P
+zero_or_more zero P a b = a refl
+zero_or_more (suc n) P a b = b (omega arith)
+
+-- a module's own body, entered where a run may be
+module _ (an : Analysis) (fit : Fit an) (straight : IsStraight an.program) (depth at : ℕ) (reading : ReadModule) (here : slice_get an.program.modules at ≡ Some reading) (w : World) (s : State) (f : Fine an w s) where
+  -- its frame
+  abbrev body_frame : Frame
+  body_frame = frame_of at reading [] s.store.begun
+
+  same_reading : (an.rules at).reading ≡ reading
+  same_reading = (fit.modules at reading here).same
+
+  inside_body : Inside body_frame (of_block reading.block) (stats_of_block reading.block)
+  inside_body = record { nodes = λ x c. c; stats = λ x c. c }
+
+  placed_body : Placed an body_frame (seen_block (an.rules at) no_map reading.block)
+  placed_body = subst (λ (x : ReadModule). Sub (seen_block (an.rules at) no_map x.block) (seen_block (an.rules at) no_map (an.rules at).reading.block)) same_reading (λ x c. c)
+
+  marked_body : Marked an body_frame (found_block (an.rules at) (seen_of an body_frame) reading.block none none none)
+  marked_body = subst (λ (x : ReadModule). Sub (found_block (an.rules at) (seen_of an body_frame) x.block none none none) (findings (an.rules at))) same_reading (λ x c. c)
+
+  begun_fine : Fine an (with_module w at) (one_begun s)
+  begun_fine = fine_begun an w s at f
+
+  begun_runs : Runs an (with_module w at) (one_begun s) body_frame
+  begun_runs = runs_begun an w s at reading [] f here tt
+
+  begun_held : Held an body_frame no_map (one_begun s)
+  begun_held = held_begun an w s body_frame no_map f refl refl (λ x firm. (s.store.heap, Nil, refl))
+
+  body_ends : Ends an (block_of an body_frame reading.block) (with_module w at) (one_begun s) (λ ending t. Unit {0}) (block (layer_of an.program depth) body_frame reading.block (one_begun s))
+  body_ends = subst (λ (p : Part Ending). Ends an (block_of an body_frame reading.block) (with_module w at) (one_begun s) (λ ending t. Unit {0}) (p (one_begun s)))
+      (block_closed (layer_of an.program depth) body_frame reading.block)
+      (ends_so an (block_of an body_frame reading.block) (with_module w at) (one_begun s) (BlockLeads an body_frame no_map reading.block) (λ ending t. Unit {0})
+      (block (closed (layer_of an.program depth)) body_frame reading.block (one_begun s)) (λ ending t v e g k p. tt)
+      (block_forward an (closed (layer_of an.program depth)) (sound an fit straight depth).0 (with_module w at) (one_begun s) body_frame no_map reading.block begun_fine begun_runs begun_held
+      inside_body placed_body))
+
+  -- a body that gave had reached no reported place
+  body_quiet : (ending : Ending) (t : State) → block (layer_of an.program depth) body_frame reading.block (one_begun s) ≡ Gave ending t → reached an s.store.begun t.trace ≡ 0
+  body_quiet ending t q = zero_or_more (reached an s.store.begun t.trace) (reached an s.store.begun t.trace ≡ 0) (λ e. e)
+      (λ e. absurd (no_bad_end an body_frame ending t (block_backward an (closed (layer_of an.program depth)) (sound an fit straight depth).0 (sound an fit straight depth).1
+      (with_module w at) (one_begun s) body_frame no_map reading.block none none none begun_fine begun_runs begun_held inside_body placed_body marked_body
+      (spare_none (an.rules at), spare_none (an.rules at), spare_none (an.rules at)) ending t
+      (ap (λ (p : Part Ending). p (one_begun s)) (block_closed (layer_of an.program depth) body_frame reading.block) ∙ q)
+      (inr (omega (arith, e, f.young s.store.begun (omega arith)))))))
+
+  pub module_ends : Ends an (nobody false) w s (λ ending t. Unit {0}) (activate (λ activation. block (layer_of an.program depth) (frame_of at reading [] activation) reading.block) s)
+  module_ends = ends_activate an (block_of an body_frame reading.block) false w s at (λ ending t. Unit {0})
+      (λ activation. block (layer_of an.program depth) (frame_of at reading [] activation) reading.block) f refl (λ e. cc) body_ends body_quiet (λ x t p. p)
+
+entered : (an : Analysis) → Fit an → IsStraight an.program → (depth at : ℕ) (o : Option ReadModule) → slice_get an.program.modules at ≡ o → (w : World) (s : State) → Fine an w s
+    → Ends an (nobody false) w s (λ ending t. Unit {0}) (enter_module (layer_of an.program depth) at o s)
+unfolding spend
+entered an fit straight depth at None e w s f = f.stays
+entered an fit straight depth at (Some reading) e w s f = module_ends an fit straight depth at reading e w s f
+
+pub straight_certain : (an : Analysis) → IsStraight an.program → Fit an → Certain an.program an.reports
+straight_certain an straight fit = certain_of an (λ ending t. Unit {0})
+    (λ entry steps tape. entered an fit straight (suc (steps + length tape)) entry (slice_get an.program.modules entry) refl no_world (start an.program steps tape) (fine_start an steps tape))
