@@ -1,20 +1,22 @@
 -- A layer whose loops and requires are spent at once does with straight code what the layer does.
-use Rattle.std.proofs.Common.{◌≡◌, ℕ, true, not, if◌then◌else◌, List, ◌∷◌, Option, Some, None, is_some, refl, sym, ◌∙◌, ap, subst}
-use Rattle.luau_values.specs.Value.{Value}
-use Rattle.luau_tree.specs.Tree.{Expr, the_expr, Exprs, no_exprs, more_exprs, ExprKind, NilExpr, TrueExpr, FalseExpr, NumberExpr, StrExpr, Vararg, FunctionExpr, NameExpr, Index, At, Call, Method, Paren, Unary, Binary, IfElse, TableExpr, Interp, Assert, Choices, no_choices, more_choices}
-use Rattle.luau_tree.specs.Tree.{Block, no_stats, more_stats, the_stat, StatKind, CallStat, Do, If, Local, TypeAlias, TypeFunction, Return, Arms, no_arms, more_arms, MaybeBlock, no_block, a_block}
+use Rattle.std.proofs.Common.{◌≡◌, ℕ, true, not, if◌then◌else◌, List, ◌∷◌, Option, Some, None, is_some, [], refl, ◌∙◌, ap}
+use Rattle.luau_values.specs.Value.{Value, Tab}
+use Rattle.luau_values.specs.Heap as heaps
+use Rattle.luau_tree.specs.Tree.{Expr, the_expr, Exprs, no_exprs, more_exprs, ExprKind, NilExpr, TrueExpr, FalseExpr, NumberExpr, StrExpr, Vararg, FunctionExpr, NameExpr, Index, At, Call, Method, Paren, Unary, Binary, IfElse, TableExpr, Interp, Assert, Choices, no_choices, more_choices, Field, Keyed, Plain, Items, no_items, more_items}
+use Rattle.luau_tree.specs.Tree.{Block, no_stats, more_stats, the_stat, StatKind, Assign, Compound, CallStat, Do, If, Local, TypeAlias, TypeFunction, Return, Arms, no_arms, more_arms, MaybeBlock, no_block, a_block}
 use Rattle.luau_tree.specs.declared.names.BinOp.{BinOp}
 use Rattle.luau_tree.specs.declared.names.BinOp.TheVariants.{Or, And}
+use Rattle.luau_tree.specs.declared.names.Place.TheVariants.{Expr as ExprPlace}
 use Rattle.luau_run.specs.Program.{Program}
 use Rattle.luau_run.specs.ReadModule.{Use, UseLocal, UseBuiltin, UseLibrary, UseGlobal}
-use Rattle.luau_run.specs.Machine.{Part, ◌>>=◌, give, spend, step, ask}
+use Rattle.luau_run.specs.Machine.{Reach, Part, ◌>>=◌, give, spend, step, log, ask, make_table}
 use Rattle.luau_run.specs.Answers.{a_string}
 use Rattle.luau_run.specs.Layer.{Frame, Ending, Falls, Returns, Layer}
-use Rattle.luau_run.specs.Operators.{is_true}
+use Rattle.luau_run.specs.Operators.{is_true, binary}
 use Rattle.luau_run.specs.Calls.{block, block_rest}
-use Rattle.luau_run.specs.Expressions.{value, all_values, each_value, chosen, binary_rest, one, reach, call_expr, evaluate, evaluate_or_builtin, values}
+use Rattle.luau_run.specs.Expressions.{value, item_fields, all_values, each_value, chosen, binary_rest, one, reach, call_expr, evaluate, evaluate_or_builtin, values}
 use Rattle.luau_run.specs.Loops.{declare}
-use Rattle.luau_run.specs.Statements.{branches, execute, stat}
+use Rattle.luau_run.specs.Statements.{Target, target, targets, write_to, write_all, read_from, place_of, branches, execute, stat}
 use Rattle.straight_certain.specs.Straight.{is_straight, is_straight_stat}
 
 abbrev pub closed : Layer → Layer
@@ -42,6 +44,12 @@ binary_closed program l frame And v right = refl
 binary_closed program l frame Or v right = refl
 binary_closed program l frame _ v right = refl
 
+items_closed : (l : Layer) (frame : Frame) (items : Items) (fields : List heaps.Field) → item_fields (closed l) frame items fields ≡ item_fields l frame items fields
+items_closed l frame no_items fields = refl
+items_closed l frame (more_items (Field name e) rest) fields = simp (items_closed l frame rest)
+items_closed l frame (more_items (Keyed key e) rest) fields = simp (items_closed l frame rest)
+items_closed l frame (more_items (Plain e) rest) fields = simp (items_closed l frame rest)
+
 evaluate_closed : (program : Program) (l : Layer) (frame : Frame) (id : ℕ) (kind : ExprKind) → is_straight frame.reading id kind ≡ true
     → evaluate program (closed l) frame id kind ≡ evaluate program l frame id kind
 evaluate_closed program l frame id NilExpr h = refl
@@ -64,7 +72,8 @@ evaluate_closed program l frame id (Paren e) h = refl
 evaluate_closed program l frame id (Unary op e) h = refl
 evaluate_closed program l frame id (Binary op left right) h = simp (binary_closed program l frame op)
 evaluate_closed program l frame id (IfElse arms last) h = ap (λ (p : Part Value). one p) (chosen_closed l frame arms last)
-evaluate_closed program l frame id (TableExpr items) h = cc
+evaluate_closed program l frame id (TableExpr items) h =
+    ap (λ (p : Part (List heaps.Field)). one (◌>>=◌ p (λ fields. ◌>>=◌ (make_table fields) (λ address. give (Tab address))))) (items_closed l frame items [])
 evaluate_closed program l frame id (Interp texts parts) h = ap (λ (p : Part (Unit {0})). one (◌>>=◌ p (λ x. ask a_string))) (each_closed l frame parts)
 evaluate_closed program l frame id (Assert e typ) h = refl
 
@@ -95,7 +104,23 @@ branches_closed l frame (more_arms cond body rest) last =
     ap (λ (p : Part Ending). ◌>>=◌ (value l frame cond) (λ c. if is_true c then p else branches (closed l) frame rest last)) (block_closed l frame body)
     ∙ ap (λ (p : Part Ending). ◌>>=◌ (value l frame cond) (λ c. if is_true c then block l frame body else p)) (branches_closed l frame rest last)
 
-execute_closed : (program : Program) (l : Layer) (frame : Frame) (kind : StatKind) → is_straight_stat kind ≡ true → execute program (closed l) frame kind ≡ execute program l frame kind
+target_closed : (l : Layer) (frame : Frame) (e : Expr) → target (closed l) frame e ≡ target l frame e
+target_closed l frame (the_expr id span (NameExpr name)) = refl
+target_closed l frame (the_expr id span (Index base name)) = refl
+target_closed l frame (the_expr id span (At base key)) = refl
+target_closed l frame (the_expr id span _) = refl
+
+targets_closed : (l : Layer) (frame : Frame) (es : Exprs) → targets (closed l) frame es ≡ targets l frame es
+targets_closed l frame no_exprs = refl
+targets_closed l frame (more_exprs e rest) = simp (target_closed l frame e, targets_closed l frame rest)
+
+execute_closed : (program : Program) (l : Layer) (frame : Frame) (kind : StatKind) → is_straight_stat frame.reading kind ≡ true → execute program (closed l) frame kind ≡ execute program l frame kind
+execute_closed program l frame (Assign to values) h =
+    ap (λ (p : Part (List Target)). ◌>>=◌ p (λ ts. ◌>>=◌ (all_values (closed l) frame values) (λ vs. ◌>>=◌ (write_all frame ts vs) (λ x. give Falls)))) (targets_closed l frame to)
+    ∙ ap (λ (p : Part (List Value)). ◌>>=◌ (targets l frame to) (λ ts. ◌>>=◌ p (λ vs. ◌>>=◌ (write_all frame ts vs) (λ x. give Falls)))) (all_closed l frame values)
+execute_closed program l frame (Compound at op e) h =
+    ap (λ (p : Part Target). ◌>>=◌ (log (Reach frame.activation frame.module_at (ExprPlace (record { 0 = place_of at })))) (λ x. ◌>>=◌ p (λ t. ◌>>=◌ (read_from program frame t)
+    (λ old. ◌>>=◌ (value l frame e) (λ v. ◌>>=◌ (binary program op old v) (λ new. ◌>>=◌ (write_to frame t new) (λ y. give Falls))))))) (target_closed l frame at)
 execute_closed program l frame (CallStat e) h = refl
 execute_closed program l frame (Do body) h = block_closed l frame body
 execute_closed program l frame (If arms last) h = branches_closed l frame arms last
@@ -106,7 +131,7 @@ execute_closed program l frame (TypeFunction exported name body) h = refl
 execute_closed program l frame (Return values) h = ap (λ (p : Part (List Value)). ◌>>=◌ p (λ vs. give (Returns vs))) (all_closed l frame values)
 execute_closed program l frame _ h = cc
 
-pub stat_closed : (program : Program) (l : Layer) (frame : Frame) (span : _) (kind : StatKind) → is_straight_stat kind ≡ true
+pub stat_closed : (program : Program) (l : Layer) (frame : Frame) (span : _) (kind : StatKind) → is_straight_stat frame.reading kind ≡ true
     → stat program (closed l) frame (the_stat span kind) ≡ stat program l frame (the_stat span kind)
 unfolding stat
 stat_closed program l frame span kind h = ap (λ (p : Part Ending). ◌>>=◌ step (λ x. p)) (execute_closed program l frame kind h)

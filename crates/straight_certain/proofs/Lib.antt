@@ -4,5 +4,10 @@ pub mod BuiltinActs
 pub mod BuiltinCalls
 pub mod Closed
 pub mod SmallForms
+pub mod Writes
+pub mod AssignForms
+pub mod CompoundForms
+pub mod ItemForms
+pub mod TableForms
 pub mod StraightForms
 pub mod Sound

@@ -1,11 +1,11 @@
 -- Each form of straight code, on the layer above one that does what the proof says.
-use Rattle.std.proofs.Common.{◌≡◌, ℕ, true, false, not, List, Option, Some, None, is_some, refl}
+use Rattle.std.proofs.Common.{◌≡◌, ℕ, true, false, not, List, Option, Some, None, is_some, refl, sym, ◌∙◌, ap, subst}
 use Rattle.luau_values.specs.Value.{Value}
-use Rattle.luau_tree.specs.Tree.{Expr, the_expr, ExprKind, NilExpr, TrueExpr, FalseExpr, NumberExpr, StrExpr, Vararg, FunctionExpr, NameExpr, Index, At, Call, Method, Paren, Unary, Binary, IfElse, TableExpr, Interp, Assert}
-use Rattle.luau_tree.specs.Tree.{Stat, the_stat, StatKind, CallStat, Do, If, Local, TypeAlias, TypeFunction, Return}
+use Rattle.luau_tree.specs.Tree.{Expr, the_expr, Exprs, no_exprs, more_exprs, ExprKind, NilExpr, TrueExpr, FalseExpr, NumberExpr, StrExpr, Vararg, FunctionExpr, NameExpr, Index, At, Call, Method, Paren, Unary, Binary, IfElse, TableExpr, Interp, Assert}
+use Rattle.luau_tree.specs.Tree.{Stat, the_stat, StatKind, Assign, Compound, CallStat, Do, If, Local, TypeAlias, TypeFunction, Return}
 use Rattle.luau_tree.specs.declared.names.BinOp.{BinOp}
 use Rattle.luau_tree.specs.declared.names.BinOp.TheVariants.{Or, And}
-use Rattle.luau_run.specs.ReadModule.{Use, UseLocal, UseBuiltin, UseLibrary, UseGlobal}
+use Rattle.luau_run.specs.ReadModule.{Use, UseLocal, UseBuiltin, UseLibrary, UseGlobal, ReadModule}
 use Rattle.luau_run.specs.SyntaxNode.{AnExpr, of_expr, of_expr_kind, of_stat}
 use Rattle.luau_run.specs.Machine.{State, Gave}
 use Rattle.luau_run.specs.Layer.{Frame, Ending, Layer}
@@ -26,7 +26,7 @@ use Rattle.run_frame.proofs.Held.{Runs, Held}
 use Rattle.run_frame.proofs.Parts.{Ends}
 use Rattle.run_frame.proofs.Layers.{rules_of, seen_of, expr_of, stat_of, Inside, Placed, Marked, Gives, Leads, Pays, EndsBad, Trouble, Forward, Backward}
 use Rattle.run_frame.proofs.LooseContexts.{SparesAll}
-use Rattle.run_frame.proofs.Readings.{contains_head, all_contained, all_at}
+use Rattle.run_frame.proofs.Readings.{contains_head, all_contained, all_at, reads_same}
 use Rattle.run_frame.proofs.Plain.{plain_forward, plain_backward, plain_nil, plain_true, plain_false, plain_number, plain_text}
 use Rattle.run_frame.proofs.NameForms.{name_forward, name_backward}
 use Rattle.run_frame.proofs.PathForms.{index_path, path_forward, path_backward}
@@ -41,8 +41,11 @@ use Rattle.run_frame.proofs.LocalBack.{local_backward}
 use Rattle.run_frame.proofs.IfForms.{if_forward, if_backward}
 use Rattle.run_frame.proofs.Leaving.{return_forward}
 use Rattle.run_frame.proofs.Wanted.{return_backward}
-use Rattle.straight_certain.specs.Straight.{is_path, is_straight, is_straight_stat, IsStraightNode, IsStraightStat, IsStraightModule, IsStraight}
+use Rattle.straight_certain.specs.Straight.{are_names, is_path, is_straight, is_straight_stat, IsStraightNode, IsStraightStat, IsStraightModule, IsStraight}
 use Rattle.straight_certain.proofs.CallForms.{Freezes, call_forward, call_backward}
+use Rattle.straight_certain.proofs.AssignForms.{AreNames, assign_forward, assign_backward}
+use Rattle.straight_certain.proofs.CompoundForms.{IsPlainName, compound_forward, compound_backward}
+use Rattle.straight_certain.proofs.TableForms.{table_forward, table_backward}
 use Rattle.straight_certain.proofs.SmallForms.{dots_forward, dots_backward, IsIdle, idle_forward, idle_backward}
 
 -- ---- what stands in a straight program
@@ -56,8 +59,8 @@ expr_straight an w s frame id span kind straight r inside = all_contained (IsStr
     (module_straight an w s frame straight r).nodes (inside.nodes (AnExpr (the_expr id span kind)) (contains_head (AnExpr (the_expr id span kind)) (of_expr_kind kind)))
 
 pub stat_straight : (an : Analysis) (w : World) (s : State) (frame : Frame) (span : _) (kind : StatKind) → IsStraight an.program → Runs an w s frame
-    → Inside frame (of_stat (the_stat span kind)) (stats_of (the_stat span kind)) → is_straight_stat kind ≡ true
-stat_straight an w s frame span kind straight r inside = all_contained IsStraightStat _ (the_stat span kind) (module_straight an w s frame straight r).statements
+    → Inside frame (of_stat (the_stat span kind)) (stats_of (the_stat span kind)) → is_straight_stat frame.reading kind ≡ true
+stat_straight an w s frame span kind straight r inside = all_contained (IsStraightStat frame.reading) _ (the_stat span kind) (module_straight an w s frame straight r).statements
     (inside.stats (the_stat span kind) (contains_head (the_stat span kind) (stats_of_kind kind)))
 
 not_required : (o : Option ℕ) → not (is_some o) ≡ true → o ≡ None
@@ -70,6 +73,21 @@ path_of (Some (UseLocal x)) e = cc
 path_of (Some UseLibrary) e = cc
 path_of (Some UseGlobal) e = cc
 path_of None e = cc
+
+names_of : (es : Exprs) → are_names es ≡ true → AreNames es
+names_of no_exprs e = tt
+names_of (more_exprs (the_expr id span (NameExpr name)) rest) e = (tt, names_of rest e)
+names_of (more_exprs (the_expr id span _) rest) e = cc
+
+plain_of : (an : Analysis) (w : World) (s : State) (frame : Frame) (id : ℕ) (span : _) (name : List ℕ) → Fit an → Runs an w s frame → not (is_path (frame.reading.use_of id)) ≡ true
+    → IsPlainName (rules_of an frame) (the_expr id span (NameExpr name))
+plain_of an w s frame id span name fit r e path k = no_path (frame.reading.use_of id) e (sym (ap (λ (x : ReadModule). x.use_of id) (reads_same an w s frame fit r)) ∙ k)
+  where
+    no_path : (o : Option Use) → not (is_path o) ≡ true → o ≡ Some (UseBuiltin path) → ⊥
+    no_path o n q = clash (subst (λ (x : Option Use). not (is_path x) ≡ true) q n)
+      where
+        clash : false ≡ true → ⊥
+        clash z = cc
 
 -- ---- expressions
 
@@ -105,7 +123,7 @@ module _ (an : Analysis) (l : Layer) (fit : Fit an) (straight : IsStraight an.pr
   values_kind w s frame map id span (Unary op e) is f r h inside placed = unary_forward an l fit fwd w s frame map id span op e f r h inside placed
   values_kind w s frame map id span (Binary op left right) is f r h inside placed = binary_either w s frame map id span op left right f r h inside placed
   values_kind w s frame map id span (IfElse arms last) is f r h inside placed = choice_forward an l fit fwd w s frame map id span arms last f r h inside placed
-  values_kind w s frame map id span (TableExpr items) is f r h inside placed = cc
+  values_kind w s frame map id span (TableExpr items) is f r h inside placed = table_forward an l fit fwd w s frame map id span items f r h inside placed
   values_kind w s frame map id span (Interp texts parts) is f r h inside placed = interp_forward an l fit fwd w s frame map id span texts parts f r h inside placed
   values_kind w s frame map id span (Assert e typ) is f r h inside placed = assert_forward an l fit fwd w s frame map id span e typ f r h inside placed
 
@@ -114,9 +132,12 @@ module _ (an : Analysis) (l : Layer) (fit : Fit an) (straight : IsStraight an.pr
       → Ends an (expr_of an frame (the_expr id span kind)) w s (Gives an frame map (the_expr id span kind)) (values an.program l frame (the_expr id span kind) s)
   values_forward w s frame map id span kind f r h inside placed = values_kind w s frame map id span kind (expr_straight an w s frame id span kind straight r inside) f r h inside placed
 
-  stat_kind : (w : World) (s : State) (frame : Frame) (map : TypeMap) (span : _) (kind : StatKind) → is_straight_stat kind ≡ true → Fine an w s → Runs an w s frame → Held an frame map s
+  stat_kind : (w : World) (s : State) (frame : Frame) (map : TypeMap) (span : _) (kind : StatKind) → is_straight_stat frame.reading kind ≡ true → Fine an w s → Runs an w s frame → Held an frame map s
       → Inside frame (of_stat (the_stat span kind)) (stats_of (the_stat span kind)) → Placed an frame (seen_stat (rules_of an frame) map (the_stat span kind))
       → Ends an (stat_of an frame (the_stat span kind)) w s (Leads an frame map (the_stat span kind)) (stat an.program l frame (the_stat span kind) s)
+  stat_kind w s frame map span (Assign es values) is f r h inside placed = assign_forward an l fit fwd w s frame map span es values (names_of es is) f r h inside placed
+  stat_kind w s frame map span (Compound (the_expr id target_span (NameExpr name)) op e) is f r h inside placed =
+      compound_forward an l fit fwd w s frame map span id target_span name op e (plain_of an w s frame id target_span name fit r is) f r h inside placed
   stat_kind w s frame map span (CallStat e) is f r h inside placed = call_stat_forward an l fwd w s frame map span e f r h inside placed
   stat_kind w s frame map span (Do body) is f r h inside placed = do_forward an l fwd w s frame map span body f r h inside placed
   stat_kind w s frame map span (If arms last) is f r h inside placed = if_forward an l fwd w s frame map span arms last f r h inside placed
@@ -168,7 +189,8 @@ module _ (an : Analysis) (l : Layer) (fit : Fit an) (straight : IsStraight an.pr
   kind_pays w s frame map id span (Binary op left right) around is f r h inside placed marked vs t q = either_pays w s frame map id span op left right around f r h inside placed marked vs t q
   kind_pays w s frame map id span (IfElse arms last) around is f r h inside placed marked vs t q =
       choice_backward an l fit fwd bwd w s frame map id span arms last around f r h inside placed marked vs t q
-  kind_pays w s frame map id span (TableExpr items) around is f r h inside placed marked vs t q = cc
+  kind_pays w s frame map id span (TableExpr items) around is f r h inside placed marked vs t q =
+      table_backward an l fit fwd bwd w s frame map id span items around f r h inside placed marked vs t q
   kind_pays w s frame map id span (Interp texts parts) around is f r h inside placed marked vs t q =
       interp_backward an l fit fwd bwd w s frame map id span texts parts around f r h inside placed marked vs t q
   kind_pays w s frame map id span (Assert e typ) around is f r h inside placed marked vs t q = assert_backward an l fit fwd bwd w s frame map id span e typ around f r h inside placed marked vs t q
@@ -180,12 +202,17 @@ module _ (an : Analysis) (l : Layer) (fit : Fit an) (straight : IsStraight an.pr
   values_pays w s frame map id span kind around f r h inside placed marked vs t q =
       kind_pays w s frame map id span kind around (expr_straight an w s frame id span kind straight r inside) f r h inside placed marked vs t q
 
-  stat_pays_kind : (w : World) (s : State) (frame : Frame) (map : TypeMap) (span : _) (kind : StatKind) (behind breaks_to continues_to : Context) → is_straight_stat kind ≡ true → Fine an w s
+  stat_pays_kind : (w : World) (s : State) (frame : Frame) (map : TypeMap) (span : _) (kind : StatKind) (behind breaks_to continues_to : Context) → is_straight_stat frame.reading kind ≡ true → Fine an w s
       → Runs an w s frame → Held an frame map s → Inside frame (of_stat (the_stat span kind)) (stats_of (the_stat span kind))
       → Placed an frame (seen_stat (rules_of an frame) map (the_stat span kind))
       → Marked an frame (found_stat (rules_of an frame) (seen_of an frame) (the_stat span kind) behind breaks_to continues_to) → SparesAll (rules_of an frame) behind breaks_to continues_to
       → (ending : Ending) (t : State) → stat an.program l frame (the_stat span kind) s ≡ Gave ending t
       → Trouble an frame (stm (rules_of an frame) (seen_of an frame) (the_stat span kind) behind breaks_to continues_to) s t → EndsBad an frame behind breaks_to continues_to ending t
+  stat_pays_kind w s frame map span (Assign es values) behind breaks_to continues_to is f r h inside placed marked spares ending t q y =
+      assign_backward an l fit fwd bwd w s frame map span es values behind breaks_to continues_to (names_of es is) f r h inside placed marked spares ending t q y
+  stat_pays_kind w s frame map span (Compound (the_expr id target_span (NameExpr name)) op e) behind breaks_to continues_to is f r h inside placed marked spares ending t q y =
+      compound_backward an l fit fwd bwd w s frame map span id target_span name op e behind breaks_to continues_to (plain_of an w s frame id target_span name fit r is) f r h inside placed marked
+      ending t q y
   stat_pays_kind w s frame map span (CallStat e) behind breaks_to continues_to is f r h inside placed marked spares ending t q y =
       call_stat_backward an l fit fwd bwd w s frame map span e behind breaks_to continues_to f r h inside placed marked ending t q y
   stat_pays_kind w s frame map span (Do body) behind breaks_to continues_to is f r h inside placed marked spares ending t q y =

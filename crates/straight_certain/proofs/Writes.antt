@@ -186,7 +186,12 @@ module _ (an : Analysis) (frame : Frame) (unassigned : (x : ℕ) (path : List �
       (λ e. rest_count types vs (number e)))
   ends_writes who w s map (Some x ∷ os) expanding types vs f r h runs assigns there typed number =
       subst (λ (m : TypeMap). Ends an who w s (λ y t. Held an frame m t) (write_all frame (run_targets (Some x ∷ os)) vs s))
-      (sym (store_one (rules_of an frame) (of_name (Some x)) (rule_targets os) expanding types map)) (by_cell (cell_of s.store.bindings frame.activation x) refl)
+      (sym (store_one (rules_of an frame) (of_name (Some x)) (rule_targets os) expanding types map)) (by_cell (cell_of s.store.bindings frame.activation x) refl
+      (λ c e. ends_writes who w (assigned c (first vs) s) (set (rules_of an frame) x (first_type expanding types) map) os expanding (rest_types types) (drop 1 vs)
+      (fine_assigned an who w s frame x c (first vs) f r e (first_there s.store.heap vs there) fixed (kept c e))
+      (runs_kept an who w w s (assigned c (first vs) s) frame (kept c e) r)
+      (held_assigned an w s frame map x c (first vs) (first_type expanding types) f h e (first_so s.store.heap expanding types vs typed number)) runs assigns.1
+      (rest_there s.store.heap vs there) (rest_so s.store.heap types vs typed) (λ n. rest_count types vs (number n))))
     where
       P : Unit {0} → State → Type 0
       P y t = Held an frame (stored_all (rules_of an frame) (rule_targets os) expanding (rest_types types) (set (rules_of an frame) x (first_type expanding types) map)) t
@@ -194,18 +199,14 @@ module _ (an : Analysis) (frame : Frame) (unassigned : (x : ℕ) (path : List �
       fixed : (path : List ℕ) → (rules_of an frame).fixed x ≡ Some path → first vs ≡ Builtin path
       fixed path e = clash ((rules_of an frame).assigned x) assigns.0.1 (unassigned x path e)
 
+      kept : (c : ℕ) → cell_of s.store.bindings frame.activation x ≡ Some c → Kept an who w s w (assigned c (first vs) s)
+      kept c e = kept_assigned an who w s frame x c (first vs) f r e runs assigns.0.0 (loose_so x assigns.0.1)
+
       by_cell : (o : Option ℕ) → cell_of s.store.bindings frame.activation x ≡ o
+          → ((c : ℕ) → cell_of s.store.bindings frame.activation x ≡ Some c → Ends an who w (assigned c (first vs) s) P (write_all frame (run_targets os) (drop 1 vs) (assigned c (first vs) s)))
           → Ends an who w s P (go_on (go_on (cell_or_spend o s) (λ cell t. Gave (tt {0}) (assigned cell (first vs) t))) (λ y. write_all frame (run_targets os) (drop 1 vs)))
-      by_cell None e = f.stays
-      by_cell (Some c) e = ends_after an who w w s (assigned c (first vs) s) P (write_all frame (run_targets os) (drop 1 vs) (assigned c (first vs) s)) kept
-          (ends_writes who w (assigned c (first vs) s) (set (rules_of an frame) x (first_type expanding types) map) os expanding (rest_types types) (drop 1 vs)
-          (fine_assigned an who w s frame x c (first vs) f r e (first_there s.store.heap vs there) fixed kept)
-          (runs_kept an who w w s (assigned c (first vs) s) frame kept r)
-          (held_assigned an w s frame map x c (first vs) (first_type expanding types) f h e (first_so s.store.heap expanding types vs typed number)) runs assigns.1
-          (rest_there s.store.heap vs there) (rest_so s.store.heap types vs typed) (λ n. rest_count types vs (number n)))
-        where
-          kept : Kept an who w s w (assigned c (first vs) s)
-          kept = kept_assigned an who w s frame x c (first vs) f r e runs assigns.0.0 (loose_so x assigns.0.1)
+      by_cell None e again = f.stays
+      by_cell (Some c) e again = ends_after an who w w s (assigned c (first vs) s) P (write_all frame (run_targets os) (drop 1 vs) (assigned c (first vs) s)) (kept c e) (again c e)
 
 -- ---- what locals hold after writes that gave
 
@@ -239,11 +240,11 @@ writes_leave an w frame [] vs s t y bound q = subst (λ (z : State). Written fra
     (record { heap = refl; bindings = refl; trace = refl; others = λ z c u n h. h })
 writes_leave an w frame (None ∷ os) vs s t y bound q = let p : Written frame os s t = writes_leave an w frame os (drop 1 vs) s t y bound q in
     record { heap = p.heap; bindings = p.bindings; trace = p.trace; others = p.others }
-writes_leave an w frame (Some x ∷ os) vs s t y bound q = by_first (write_gave frame x os vs s t y q)
+writes_leave an w frame (Some x ∷ os) vs s t y bound q = by_first (write_gave frame x os vs s t y q) (λ c e. writes_leave an w frame os (drop 1 vs) (assigned c (first vs) s) t y bound e)
   where
     by_first : (c : ℕ) × (cell_of s.store.bindings frame.activation x ≡ Some c) × (write_all frame (run_targets os) (drop 1 vs) (assigned c (first vs) s) ≡ Gave y t)
-        → Written frame (Some x ∷ os) s t
-    by_first (c, cell, e) = by_rest (writes_leave an w frame os (drop 1 vs) (assigned c (first vs) s) t y bound e)
+        → ((c : ℕ) → write_all frame (run_targets os) (drop 1 vs) (assigned c (first vs) s) ≡ Gave y t → Written frame os (assigned c (first vs) s) t) → Written frame (Some x ∷ os) s t
+    by_first (c, cell, e) again = by_rest (again c e)
       where
         spared : (z d : ℕ) (u : Value) → (z == x) ≡ false → Reads frame s z d u → Reads frame (assigned c (first vs) s) z d u
         spared z d u n h = (h.0, by_place (set_elsewhere s.store.cells c d (first vs)))
@@ -268,12 +269,12 @@ writes_leave an w frame (Some x ∷ os) vs s t y bound q = by_first (write_gave 
               p.others z d u k.1 (spared z d u k.0 h);
         }
 
--- what was written to a local that isn't written again is there, where the local's cell held something
-pub write_reads : (an : Analysis) (w : World) (frame : Frame) (x c : ℕ) (os : List (Option ℕ)) (vs : List Value) (s t : State) (y : Unit {0}) → Fine an w s → Runs an w s frame
-    → cell_of s.store.bindings frame.activation x ≡ Some c → is_among x (assigned_locals os) ≡ false
+-- what was written to a local that isn't written again is there
+pub write_reads : (an : Analysis) (w : World) (frame : Frame) (x c : ℕ) (os : List (Option ℕ)) (vs : List Value) (s t : State) (y : Unit {0}) → AllByRecursion (IsBoundWell an w) s.store.bindings
+    → length w.owners ≡ length s.store.cells → cell_of s.store.bindings frame.activation x ≡ Some c → is_among x (assigned_locals os) ≡ false
     → write_all frame (run_targets os) (drop 1 vs) (assigned c (first vs) s) ≡ Gave y t → Reads frame t x c (first vs)
-write_reads an w frame x c os vs s t y f r cell n e =
-    (writes_leave an w frame os (drop 1 vs) (assigned c (first vs) s) t y f.bound e).others x c (first vs) n (cell, in_range)
+write_reads an w frame x c os vs s t y bound owned cell n e =
+    (writes_leave an w frame os (drop 1 vs) (assigned c (first vs) s) t y bound e).others x c (first vs) n (cell, in_range)
   where
     get_there : {A : Type 0} (xs : List A) (i : ℕ) → i < length xs → (z : A) × (slice_get xs i ≡ Some z)
     get_there [] i l = absurd (omega (arith, l))
@@ -281,6 +282,6 @@ write_reads an w frame x c os vs s t y f r cell n e =
     get_there (z ∷ xs) (suc i) l = get_there xs i (omega (arith, l))
 
     in_range : slice_get (slice_set s.store.cells c (first vs)) c ≡ Some (first vs)
-    in_range = let o : HasOwner an w frame.activation x c = bound_well an w frame.activation x c s.store.bindings f.bound cell in
-        let p : (z : Value) × (slice_get s.store.cells c ≡ Some z) = get_there s.store.cells c (subst (λ (j : ℕ). c < j) f.owned (slice_get_within w.owners c o.0 o.1)) in
+    in_range = let o : HasOwner an w frame.activation x c = bound_well an w frame.activation x c s.store.bindings bound cell in
+        let p : (z : Value) × (slice_get s.store.cells c ≡ Some z) = get_there s.store.cells c (subst (λ (j : ℕ). c < j) owned (slice_get_within w.owners c o.0 o.1)) in
         set_same s.store.cells c (first vs) p.0 p.1
