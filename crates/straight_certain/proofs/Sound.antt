@@ -36,21 +36,20 @@ use Rattle.run_frame.proofs.Activations.{one_begun, fine_begun, runs_begun, held
 use Rattle.run_frame.proofs.AtEnd.{fine_start, certain_of}
 use Rattle.run_frame.proofs.Layers.{rules_of, seen_of, expr_of, stat_of, block_of, Inside, Placed, Marked, Gives, Leads, Pays, EndsBad, Trouble, Forward, Backward}
 use Rattle.run_frame.proofs.LooseContexts.{SparesAll, spare_none}
-use Rattle.run_frame.proofs.Readings.{all_contained, all_at}
 use Rattle.run_frame.proofs.Passing.{none_violated}
 use Rattle.run_frame.proofs.Blocks.{BlockLeads, block_forward, block_backward}
-use Rattle.straight_certain.specs.Straight.{IsStraightNode, IsStraightModule, IsStraight}
+use Rattle.straight_certain.specs.Straight.{IsStraight}
 use Rattle.straight_certain.proofs.BuiltinActs.{acts_forward}
 use Rattle.straight_certain.proofs.BuiltinCalls.{NoBodies, call_forward}
 use Rattle.straight_certain.proofs.CallForms.{Freezes}
 use Rattle.straight_certain.proofs.Closed.{closed, block_closed, values_closed, stat_closed}
-use Rattle.straight_certain.proofs.StraightForms.{expr_straight, stat_straight, values_forward, stat_forward, values_pays, stat_pays}
+use Rattle.straight_certain.proofs.StraightForms.{nodes_straight, expr_straight, stat_straight, values_forward, stat_forward, values_pays, stat_pays}
 
 -- ---- what holds of each layer
 
 -- no function body stands in a straight program
 no_bodies : (an : Analysis) → IsStraight an.program → NoBodies an
-no_bodies an straight m reading e code c = off (all_contained (IsStraightNode reading) (of_block reading.block) (ABody code) (all_at IsStraightModule an.program.modules m reading straight e).nodes c)
+no_bodies an straight m reading e code c = off (nodes_straight an.program m reading (ABody code) straight e c)
   where
     off : false ≡ true → ⊥
     off k = cc

@@ -1,12 +1,14 @@
 -- Each form of straight code, on the layer above one that does what the proof says.
-use Rattle.std.proofs.Common.{◌≡◌, ℕ, true, false, not, List, Option, Some, None, is_some, refl, sym, ◌∙◌, ap, subst}
+use Rattle.std.proofs.Common.{◌≡◌, ℕ, Bool, true, false, not, ◌&&◌, List, [], ◌∷◌, Option, Some, None, is_some, refl, sym, ◌∙◌, ap, subst, slice_get, Contains}
+use Rattle.std.specs.List.{AllByRecursion, list_all}
 use Rattle.luau_values.specs.Value.{Value}
 use Rattle.luau_tree.specs.Tree.{Expr, the_expr, Exprs, no_exprs, more_exprs, ExprKind, NilExpr, TrueExpr, FalseExpr, NumberExpr, StrExpr, Vararg, FunctionExpr, NameExpr, Index, At, Call, Method, Paren, Unary, Binary, IfElse, TableExpr, Interp, Assert}
 use Rattle.luau_tree.specs.Tree.{Stat, the_stat, StatKind, Assign, Compound, CallStat, Do, If, Local, TypeAlias, TypeFunction, Return}
 use Rattle.luau_tree.specs.declared.names.BinOp.{BinOp}
 use Rattle.luau_tree.specs.declared.names.BinOp.TheVariants.{Or, And}
 use Rattle.luau_run.specs.ReadModule.{Use, UseLocal, UseBuiltin, UseLibrary, UseGlobal, ReadModule}
-use Rattle.luau_run.specs.SyntaxNode.{AnExpr, of_expr, of_expr_kind, of_stat}
+use Rattle.luau_run.specs.SyntaxNode.{SyntaxNode, AnExpr, of_block, of_expr, of_expr_kind, of_stat}
+use Rattle.luau_run.specs.Program.{Program}
 use Rattle.luau_run.specs.Machine.{State, Gave}
 use Rattle.luau_run.specs.Layer.{Frame, Ending, Layer}
 use Rattle.luau_run.specs.Expressions.{values}
@@ -18,7 +20,7 @@ use Rattle.report_rules.specs.Checks.{ReportKind}
 use Rattle.report_rules.specs.Statements.{stm}
 use Rattle.report_rules.specs.Findings.{found, found_stat}
 use Rattle.run_frame.specs.Analysis.{Analysis}
-use Rattle.run_frame.specs.Statements.{stats_of, stats_of_kind, stats_of_expr}
+use Rattle.run_frame.specs.Statements.{stats_of_block, stats_of, stats_of_kind, stats_of_expr}
 use Rattle.run_frame.specs.Fit.{Fit}
 use Rattle.run_frame.proofs.World.{World}
 use Rattle.run_frame.proofs.Fine.{Fine}
@@ -41,7 +43,7 @@ use Rattle.run_frame.proofs.LocalBack.{local_backward}
 use Rattle.run_frame.proofs.IfForms.{if_forward, if_backward}
 use Rattle.run_frame.proofs.Leaving.{return_forward}
 use Rattle.run_frame.proofs.Wanted.{return_backward}
-use Rattle.straight_certain.specs.Straight.{are_names, is_path, is_straight, is_straight_stat, IsStraightNode, IsStraightStat, IsStraightModule, IsStraight}
+use Rattle.straight_certain.specs.Straight.{are_names, is_path, is_straight, is_straight_stat, is_straight_node, is_straight_statement, is_straight_module, IsStraight}
 use Rattle.straight_certain.proofs.CallForms.{Freezes, call_forward, call_backward}
 use Rattle.straight_certain.proofs.AssignForms.{AreNames, assign_forward, assign_backward}
 use Rattle.straight_certain.proofs.CompoundForms.{IsPlainName, compound_forward, compound_backward}
@@ -50,17 +52,37 @@ use Rattle.straight_certain.proofs.SmallForms.{dots_forward, dots_backward, IsId
 
 -- ---- what stands in a straight program
 
-module_straight : (an : Analysis) (w : World) (s : State) (frame : Frame) → IsStraight an.program → Runs an w s frame → IsStraightModule frame.reading
-module_straight an w s frame straight r = all_at IsStraightModule an.program.modules frame.module_at frame.reading straight r.reading
+both_so : (a b : Bool) → a && b ≡ true → (a ≡ true) × (b ≡ true)
+both_so true b e = (refl, e)
+both_so false b e = cc
+
+all_at_once : {A : Type 0} (test : A → Bool) (xs : List A) → list_all test xs ≡ true → AllByRecursion (λ x. test x ≡ true) xs
+all_at_once test [] e = tt
+all_at_once test (x ∷ xs) e = let p : (test x ≡ true) × (list_all test xs ≡ true) = both_so (test x) (list_all test xs) e in (p.0, all_at_once test xs p.1)
+
+-- each module of a straight program is straight, and what stands in it
+pub nodes_straight : (program : Program) (m : ℕ) (reading : ReadModule) (node : SyntaxNode) → IsStraight program → slice_get program.modules m ≡ Some reading
+    → Contains (of_block reading.block) node → is_straight_node reading node ≡ true
+nodes_straight program m reading node straight e c = all_contained (λ x. is_straight_node reading x ≡ true) (of_block reading.block) node
+    (all_at_once (is_straight_node reading) (of_block reading.block) (both_so (list_all (is_straight_node reading) (of_block reading.block))
+    (list_all (is_straight_statement reading) (stats_of_block reading.block))
+    (all_at (λ x. is_straight_module x ≡ true) program.modules m reading (all_at_once is_straight_module program.modules straight) e)).0) c
+
+stats_straight : (program : Program) (m : ℕ) (reading : ReadModule) (st : Stat) → IsStraight program → slice_get program.modules m ≡ Some reading
+    → Contains (stats_of_block reading.block) st → is_straight_statement reading st ≡ true
+stats_straight program m reading st straight e c = all_contained (λ x. is_straight_statement reading x ≡ true) (stats_of_block reading.block) st
+    (all_at_once (is_straight_statement reading) (stats_of_block reading.block) (both_so (list_all (is_straight_node reading) (of_block reading.block))
+    (list_all (is_straight_statement reading) (stats_of_block reading.block))
+    (all_at (λ x. is_straight_module x ≡ true) program.modules m reading (all_at_once is_straight_module program.modules straight) e)).1) c
 
 pub expr_straight : (an : Analysis) (w : World) (s : State) (frame : Frame) (id : ℕ) (span : _) (kind : ExprKind) → IsStraight an.program → Runs an w s frame
     → Inside frame (of_expr (the_expr id span kind)) (stats_of_expr (the_expr id span kind)) → is_straight frame.reading id kind ≡ true
-expr_straight an w s frame id span kind straight r inside = all_contained (IsStraightNode frame.reading) _ (AnExpr (the_expr id span kind))
-    (module_straight an w s frame straight r).nodes (inside.nodes (AnExpr (the_expr id span kind)) (contains_head (AnExpr (the_expr id span kind)) (of_expr_kind kind)))
+expr_straight an w s frame id span kind straight r inside = nodes_straight an.program frame.module_at frame.reading (AnExpr (the_expr id span kind)) straight r.reading
+    (inside.nodes (AnExpr (the_expr id span kind)) (contains_head (AnExpr (the_expr id span kind)) (of_expr_kind kind)))
 
 pub stat_straight : (an : Analysis) (w : World) (s : State) (frame : Frame) (span : _) (kind : StatKind) → IsStraight an.program → Runs an w s frame
     → Inside frame (of_stat (the_stat span kind)) (stats_of (the_stat span kind)) → is_straight_stat frame.reading kind ≡ true
-stat_straight an w s frame span kind straight r inside = all_contained (IsStraightStat frame.reading) _ (the_stat span kind) (module_straight an w s frame straight r).statements
+stat_straight an w s frame span kind straight r inside = stats_straight an.program frame.module_at frame.reading (the_stat span kind) straight r.reading
     (inside.stats (the_stat span kind) (contains_head (the_stat span kind) (stats_of_kind kind)))
 
 not_required : (o : Option ℕ) → not (is_some o) ≡ true → o ≡ None

@@ -1,6 +1,6 @@
 -- Straight code: no function bodies, no fields of tables, no loops and no static requires.
 use Rattle.std.specs.Prelude.{◌≡◌, ℕ, Bool, true, false, not, ◌&&◌, List, Option, Some, is_some}
-use Rattle.std.specs.List.{AllByRecursion}
+use Rattle.std.specs.List.{list_all}
 use Rattle.luau_tree.specs.Tree.{Expr, the_expr, Exprs, no_exprs, more_exprs, ExprKind, FunctionExpr, NameExpr, Index, At, Call, Method, Stat, the_stat, StatKind, Assign, Compound, CallStat, Do, If, Local, TypeAlias, TypeFunction, Return}
 use Rattle.luau_run.specs.ReadModule.{Use, UseBuiltin, ReadModule}
 use Rattle.luau_run.specs.SyntaxNode.{SyntaxNode, AnExpr, ABody, ABind, of_block}
@@ -49,20 +49,19 @@ is_straight_stat reading (TypeFunction exported name body) = true
 is_straight_stat reading (Return values) = true
 is_straight_stat reading _ = false
 
--- a node of a module, and a statement, is straight; no function body is
-abbrev pub IsStraightNode : ReadModule → SyntaxNode → Type 0
-IsStraightNode reading (AnExpr (the_expr id span kind)) = is_straight reading id kind ≡ true
-IsStraightNode reading (ABody body) = false ≡ true
-IsStraightNode reading (ABind bind) = true ≡ true
+-- whether a node of a module is straight, which no function body is; and whether a statement is
+abbrev pub is_straight_node : ReadModule → SyntaxNode → Bool
+is_straight_node reading (AnExpr (the_expr id span kind)) = is_straight reading id kind
+is_straight_node reading (ABody body) = false
+is_straight_node reading (ABind bind) = true
 
-abbrev pub IsStraightStat : ReadModule → Stat → Type 0
-IsStraightStat reading (the_stat span kind) = is_straight_stat reading kind ≡ true
+abbrev pub is_straight_statement : ReadModule → Stat → Bool
+is_straight_statement reading (the_stat span kind) = is_straight_stat reading kind
 
 -- a module is straight where all that stands in it is, at whatever depth
-pub record IsStraightModule (reading : ReadModule) : Type 0 where
-  pub nodes : AllByRecursion (IsStraightNode reading) (of_block reading.block)
-  pub statements : AllByRecursion (IsStraightStat reading) (stats_of_block reading.block)
+abbrev pub is_straight_module : ReadModule → Bool
+is_straight_module reading = list_all (is_straight_node reading) (of_block reading.block) && list_all (is_straight_statement reading) (stats_of_block reading.block)
 
 -- a program is straight where each of its modules is
 abbrev pub IsStraight : Program → Type 0
-IsStraight program = AllByRecursion IsStraightModule program.modules
+IsStraight program = list_all is_straight_module program.modules ≡ true
