@@ -148,12 +148,14 @@ list_given an l fwd bwd w s frame map (more_exprs e (more_exprs next rest)) c f 
         (sub_left (found (rules_of an frame) (seen_of an frame) c.0.kinds e) (found_checks an frame (more_exprs next rest) c.2) (findings (rules_of an frame)) marked) one m k)
       where
         by_first : Evaluated an w s frame map e one m → AreGiven (more_exprs e (more_exprs next rest)) vs × (reached an frame.activation s.trace ≤ reached an frame.activation t.trace)
-        by_first o = subst (λ (xs : List Value). AreGiven (more_exprs e (more_exprs next rest)) xs × (reached an frame.activation s.trace ≤ reached an frame.activation t.trace)) (sym same)
-            ((λ z. tt, (again o.world m others o.fine o.runs o.held n).0), omega (
-              arith,
-              count_rises _ (reached an frame.activation s.trace) (reached an frame.activation m.trace) o.pays.reports,
-              (again o.world m others o.fine o.runs o.held n).1,
-            ))
+        by_first o = subst (λ (xs : List Value). AreGiven (more_exprs e (more_exprs next rest)) xs × (reached an frame.activation s.trace ≤ reached an frame.activation t.trace)) (sym same) (
+          (λ z. tt, (again o.world m others o.fine o.runs o.held n).0),
+          omega (
+            arith,
+            count_rises _ (reached an frame.activation s.trace) (reached an frame.activation m.trace) o.pays.reports,
+            (again o.world m others o.fine o.runs o.held n).1,
+          ),
+        )
 
 -- ---- what a builtin took
 

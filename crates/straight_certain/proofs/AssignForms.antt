@@ -127,9 +127,11 @@ same_number n = grind arith
 each_written : (os : List (Option ℕ)) → AllByRecursion (λ x. any_writes_local x (rule_targets os) ≡ true) (assigned_locals os)
 each_written [] = tt
 each_written (None ∷ os) = each_written os
-each_written (Some x ∷ os) = (or_left (x == x) (any_writes_local x (rule_targets os)) (same_number x),
-    all_map (λ y. any_writes_local y (rule_targets os) ≡ true) (λ y. any_writes_local y (rule_targets (Some x ∷ os)) ≡ true) (assigned_locals os)
-    (λ y e. or_right (writes_local y (of_name (Some x))) (any_writes_local y (rule_targets os)) e) (each_written os))
+each_written (Some x ∷ os) = (
+  or_left (x == x) (any_writes_local x (rule_targets os)) (same_number x),
+  all_map (λ y. any_writes_local y (rule_targets os) ≡ true) (λ y. any_writes_local y (rule_targets (Some x ∷ os)) ≡ true) (assigned_locals os)
+      (λ y e. or_right (writes_local y (of_name (Some x))) (any_writes_local y (rule_targets os)) e) (each_written os),
+)
 
 are_assigned : (an : Analysis) (frame : Frame) (span : _) (es values : Exprs) (os : List (Option ℕ))
     → ((x : ℕ) → any_writes_local x (targets_of (rules_of an frame) es) ≡ true → (rules_of an frame).assigned x ≡ true)

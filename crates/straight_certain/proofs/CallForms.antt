@@ -296,14 +296,13 @@ call_gives an frame map id span callee args xs vs rs a b c u y z calm fit used r
     by_parts : (x : ℕ) → (e : Expr) × (args ≡ more_exprs e no_exprs) × (fixed_builtin (rules_of an frame) callee ≡ Some (codes "type")) × (firm_local (rules_of an frame) e ≡ Some x)
         → (d : ℕ) × (v : Value) × Reads frame u x d v × IsKindName v (first rs)
     by_parts x (e, alone, fixed, firm) =
-        let q : (d : ℕ) × Reads frame b x d (first vs) = one_local an frame args vs b e x alone p.1 firm in
-          (
-            q.0,
-            first vs,
-            reads_after an (nobody calm) y z c u frame f r k x q.0 (first vs) refl refl (firm_so (rules_of an frame) (local_named (rules_of an frame) e) x firm).1
-                (read_same frame b c x q.0 (first vs) same q.1),
-            answers.kind (ap first (g.fixed (codes "type") fixed)),
-          )
+        let q : (d : ℕ) × Reads frame b x d (first vs) = one_local an frame args vs b e x alone p.1 firm in (
+          q.0,
+          first vs,
+          reads_after an (nobody calm) y z c u frame f r k x q.0 (first vs) refl refl (firm_so (rules_of an frame) (local_named (rules_of an frame) e) x firm).1
+              (read_same frame b c x q.0 (first vs) same q.1),
+          answers.kind (ap first (g.fixed (codes "type") fixed)),
+        )
 
 pub call_forward : (an : Analysis) (l : Layer) → Fit an → Forward an l → Freezes l → (w : World) (s : State) (frame : Frame) (map : TypeMap) (id : ℕ) (span : _) (callee : Expr) (args : Exprs)
     → frame.reading.required id ≡ None → Fine an w s

@@ -233,7 +233,7 @@ IsKeyed (Str name) v fields more = more ≡ heaps.written name v fields
 IsKeyed _ v fields more = more ≡ fields
 
 -- what is known of a key that is written as a string or as a number
-abbrev KeyIs : Expr → Value → Type 0
+abbrev pub KeyIs : Expr → Value → Type 0
 KeyIs (the_expr id span (StrExpr bytes)) k = k ≡ Str bytes
 KeyIs (the_expr id span (NumberExpr text)) k = (digits : List ℕ) × (k ≡ Num digits)
 KeyIs _ k = Unit {0}
@@ -255,7 +255,7 @@ text_form bytes = record { nameless = refl; pathless = refl; no_local = λ rules
 number_form : (text : List ℕ) → IsForm (NumberExpr text)
 number_form text = record { nameless = refl; pathless = refl; no_local = λ rules id span. refl }
 
-key_is : (an : Analysis) (w : World) (s : State) (frame : Frame) (map : TypeMap) (key : Expr) (vs : List Value) (t : State) → Fit an → Runs an w s frame
+pub key_is : (an : Analysis) (w : World) (s : State) (frame : Frame) (map : TypeMap) (key : Expr) (vs : List Value) (t : State) → Fit an → Runs an w s frame
     → Inside frame (of_expr key) (stats_of_expr key) → Gives an frame map key vs t → KeyIs key (first vs)
 key_is an w s frame map (the_expr id span (StrExpr bytes)) vs t fit r inside g = text_holds t.store.heap (first vs) bytes
     (subst (λ (u : Option Use). holds t.store.heap (first vs) (builtin_or u (text_type bytes)) ≡ true) (form_read an w s frame id span (StrExpr bytes) fit (text_form bytes) r inside) g.typed)

@@ -9,5 +9,7 @@ pub mod AssignForms
 pub mod CompoundForms
 pub mod ItemForms
 pub mod TableForms
+pub mod FieldReads
+pub mod ReadForms
 pub mod StraightForms
 pub mod Sound

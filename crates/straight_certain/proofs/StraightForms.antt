@@ -1,11 +1,12 @@
 -- Each form of straight code, on the layer above one that does what the proof says.
-use Rattle.std.proofs.Common.{◌≡◌, ℕ, Bool, true, false, not, ◌&&◌, List, [], ◌∷◌, Option, Some, None, is_some, refl, sym, ◌∙◌, ap, subst, slice_get, Contains}
+use Rattle.std.proofs.Common.{◌≡◌, ℕ, Bool, true, false, not, ◌&&◌, List, [], ◌∷◌, Option, Some, None, is_some, ◌⊎◌, inl, inr, refl, sym, ◌∙◌, ap, subst, slice_get, Contains}
 use Rattle.std.specs.List.{AllByRecursion, list_all}
 use Rattle.luau_values.specs.Value.{Value}
 use Rattle.luau_tree.specs.Tree.{Expr, the_expr, Exprs, no_exprs, more_exprs, ExprKind, NilExpr, TrueExpr, FalseExpr, NumberExpr, StrExpr, Vararg, FunctionExpr, NameExpr, Index, At, Call, Method, Paren, Unary, Binary, IfElse, TableExpr, Interp, Assert}
 use Rattle.luau_tree.specs.Tree.{Stat, the_stat, StatKind, Assign, Compound, CallStat, Do, If, Local, TypeAlias, TypeFunction, Return}
 use Rattle.luau_tree.specs.declared.names.BinOp.{BinOp}
 use Rattle.luau_tree.specs.declared.names.BinOp.TheVariants.{Or, And}
+use Rattle.luau_run.specs.ReadFolder.{may_mean}
 use Rattle.luau_run.specs.ReadModule.{Use, UseLocal, UseBuiltin, UseLibrary, UseGlobal, ReadModule}
 use Rattle.luau_run.specs.SyntaxNode.{SyntaxNode, AnExpr, of_block, of_expr, of_expr_kind, of_stat}
 use Rattle.luau_run.specs.Program.{Program}
@@ -28,7 +29,7 @@ use Rattle.run_frame.proofs.Held.{Runs, Held}
 use Rattle.run_frame.proofs.Parts.{Ends}
 use Rattle.run_frame.proofs.Layers.{rules_of, seen_of, expr_of, stat_of, Inside, Placed, Marked, Gives, Leads, Pays, EndsBad, Trouble, Forward, Backward}
 use Rattle.run_frame.proofs.LooseContexts.{SparesAll}
-use Rattle.run_frame.proofs.Readings.{contains_head, all_contained, all_at, reads_same}
+use Rattle.run_frame.proofs.Readings.{contains_head, all_contained, all_at, reads_same, means}
 use Rattle.run_frame.proofs.Plain.{plain_forward, plain_backward, plain_nil, plain_true, plain_false, plain_number, plain_text}
 use Rattle.run_frame.proofs.NameForms.{name_forward, name_backward}
 use Rattle.run_frame.proofs.PathForms.{index_path, path_forward, path_backward}
@@ -48,6 +49,7 @@ use Rattle.straight_certain.proofs.CallForms.{Freezes, call_forward, call_backwa
 use Rattle.straight_certain.proofs.AssignForms.{AreNames, assign_forward, assign_backward}
 use Rattle.straight_certain.proofs.CompoundForms.{IsPlainName, compound_forward, compound_backward}
 use Rattle.straight_certain.proofs.TableForms.{table_forward, table_backward}
+use Rattle.straight_certain.proofs.ReadForms.{index_forward, index_backward, at_forward, at_backward}
 use Rattle.straight_certain.proofs.SmallForms.{dots_forward, dots_backward, IsIdle, idle_forward, idle_backward}
 
 -- ---- what stands in a straight program
@@ -89,12 +91,22 @@ not_required : (o : Option ℕ) → not (is_some o) ≡ true → o ≡ None
 not_required None e = refl
 not_required (Some at) e = cc
 
-path_of : (o : Option Use) → is_path o ≡ true → (path : List ℕ) × (o ≡ Some (UseBuiltin path))
-path_of (Some (UseBuiltin path)) e = (path, refl)
-path_of (Some (UseLocal x)) e = cc
-path_of (Some UseLibrary) e = cc
-path_of (Some UseGlobal) e = cc
-path_of None e = cc
+-- `a.p` is a builtin's path, or stands for nothing
+abbrev IndexMeans : Option Use → Type 0
+IndexMeans o = (o ≡ None) ⊎ ((path : List ℕ) × (o ≡ Some (UseBuiltin path)))
+
+index_means : (an : Analysis) (w : World) (s : State) (frame : Frame) (id : ℕ) (span : _) (base : Expr) (name : List ℕ) → Fit an → Runs an w s frame
+    → Inside frame (of_expr (the_expr id span (Index base name))) (stats_of_expr (the_expr id span (Index base name))) → IndexMeans (frame.reading.use_of id)
+index_means an w s frame id span base name fit r inside = by_use (frame.reading.use_of id)
+    (means an w s frame id span (Index base name) fit r (inside.nodes (AnExpr (the_expr id span (Index base name)))
+    (contains_head (AnExpr (the_expr id span (Index base name))) (of_expr_kind (Index base name)))))
+  where
+    by_use : (o : Option Use) → may_mean an.program (Index base name) o ≡ true → IndexMeans o
+    by_use None e = inl refl
+    by_use (Some (UseBuiltin path)) e = inr (path, refl)
+    by_use (Some (UseLocal x)) e = cc
+    by_use (Some UseLibrary) e = cc
+    by_use (Some UseGlobal) e = cc
 
 names_of : (es : Exprs) → are_names es ≡ true → AreNames es
 names_of no_exprs e = tt
@@ -123,6 +135,13 @@ module _ (an : Analysis) (l : Layer) (fit : Fit an) (straight : IsStraight an.pr
   binary_either w s frame map id span Or left right f r h inside placed = either_forward an l fit fwd w s frame map id span false left right f r h inside placed
   binary_either w s frame map id span op left right f r h inside placed = binary_forward an l fit fwd w s frame map id span op left right tt f r h inside placed
 
+  index_values : (w : World) (s : State) (frame : Frame) (map : TypeMap) (id : ℕ) (span : _) (base : Expr) (name : List ℕ) → Fine an w s → Runs an w s frame → Held an frame map s
+      → Inside frame (of_expr (the_expr id span (Index base name))) (stats_of_expr (the_expr id span (Index base name)))
+      → Placed an frame (seen_expr (rules_of an frame) map (the_expr id span (Index base name))) → IndexMeans (frame.reading.use_of id)
+      → Ends an (expr_of an frame (the_expr id span (Index base name))) w s (Gives an frame map (the_expr id span (Index base name))) (values an.program l frame (the_expr id span (Index base name)) s)
+  index_values w s frame map id span base name f r h inside placed (inl unused) = index_forward an l fit fwd w s frame map id span base name unused f r h inside placed
+  index_values w s frame map id span base name f r h inside placed (inr p) = path_forward an l w s frame map id span (Index base name) p.0 fit (index_path base name) p.1 f r
+
   values_kind : (w : World) (s : State) (frame : Frame) (map : TypeMap) (id : ℕ) (span : _) (kind : ExprKind) → is_straight frame.reading id kind ≡ true → Fine an w s → Runs an w s frame
       → Held an frame map s → Inside frame (of_expr (the_expr id span kind)) (stats_of_expr (the_expr id span kind)) → Placed an frame (seen_expr (rules_of an frame) map (the_expr id span kind))
       → Ends an (expr_of an frame (the_expr id span kind)) w s (Gives an frame map (the_expr id span kind)) (values an.program l frame (the_expr id span kind) s)
@@ -134,10 +153,9 @@ module _ (an : Analysis) (l : Layer) (fit : Fit an) (straight : IsStraight an.pr
   values_kind w s frame map id span Vararg is f r h inside placed = dots_forward an l fit w s frame map id span f r inside
   values_kind w s frame map id span (FunctionExpr body) is f r h inside placed = cc
   values_kind w s frame map id span (NameExpr name) is f r h inside placed = name_forward an l w s frame map id span name fit f r h
-  values_kind w s frame map id span (Index base name) is f r h inside placed =
-      let p : (path : List ℕ) × (frame.reading.use_of id ≡ Some (UseBuiltin path)) = path_of (frame.reading.use_of id) is in
-      path_forward an l w s frame map id span (Index base name) p.0 fit (index_path base name) p.1 f r
-  values_kind w s frame map id span (At base key) is f r h inside placed = cc
+  values_kind w s frame map id span (Index base name) is f r h inside placed = index_values w s frame map id span base name f r h inside placed
+      (index_means an w s frame id span base name fit r inside)
+  values_kind w s frame map id span (At base key) is f r h inside placed = at_forward an l fit fwd w s frame map id span base key f r h inside placed
   values_kind w s frame map id span (Call callee args) is f r h inside placed =
       call_forward an l fit fwd freezes w s frame map id span callee args (not_required (frame.reading.required id) is) f r h inside placed
   values_kind w s frame map id span (Method base name name_span args) is f r h inside placed = cc
@@ -187,6 +205,17 @@ module _ (an : Analysis) (l : Layer) (fit : Fit an) (straight : IsStraight an.pr
   either_pays w s frame map id span op left right around f r h inside placed marked vs t q =
       binary_backward an l fit fwd bwd w s frame map id span op left right around tt f r h inside placed marked vs t q
 
+  index_pays : (w : World) (s : State) (frame : Frame) (map : TypeMap) (id : ℕ) (span : _) (base : Expr) (name : List ℕ) (around : List ReportKind) → Fine an w s → Runs an w s frame
+      → Held an frame map s → Inside frame (of_expr (the_expr id span (Index base name))) (stats_of_expr (the_expr id span (Index base name)))
+      → Placed an frame (seen_expr (rules_of an frame) map (the_expr id span (Index base name)))
+      → Marked an frame (found (rules_of an frame) (seen_of an frame) around (the_expr id span (Index base name)))
+      → (vs : List Value) (t : State) → values an.program l frame (the_expr id span (Index base name)) s ≡ Gave vs t → IndexMeans (frame.reading.use_of id)
+      → Pays an frame (the_expr id span (Index base name)) s vs t
+  index_pays w s frame map id span base name around f r h inside placed marked vs t q (inl unused) =
+      index_backward an l fit fwd bwd w s frame map id span base name around unused f r h inside placed marked vs t q
+  index_pays w s frame map id span base name around f r h inside placed marked vs t q (inr p) =
+      path_backward an l w s frame id span (Index base name) p.0 vs t fit (index_path base name) p.1 f r q
+
   kind_pays : (w : World) (s : State) (frame : Frame) (map : TypeMap) (id : ℕ) (span : _) (kind : ExprKind) (around : List ReportKind) → is_straight frame.reading id kind ≡ true → Fine an w s
       → Runs an w s frame → Held an frame map s → Inside frame (of_expr (the_expr id span kind)) (stats_of_expr (the_expr id span kind))
       → Placed an frame (seen_expr (rules_of an frame) map (the_expr id span kind)) → Marked an frame (found (rules_of an frame) (seen_of an frame) around (the_expr id span kind))
@@ -199,10 +228,10 @@ module _ (an : Analysis) (l : Layer) (fit : Fit an) (straight : IsStraight an.pr
   kind_pays w s frame map id span Vararg around is f r h inside placed marked vs t q = dots_backward an l fit w s frame id span f r inside vs t q
   kind_pays w s frame map id span (FunctionExpr body) around is f r h inside placed marked vs t q = cc
   kind_pays w s frame map id span (NameExpr name) around is f r h inside placed marked vs t q = name_backward an l w s frame id span name vs t fit f r q
-  kind_pays w s frame map id span (Index base name) around is f r h inside placed marked vs t q =
-      let p : (path : List ℕ) × (frame.reading.use_of id ≡ Some (UseBuiltin path)) = path_of (frame.reading.use_of id) is in
-      path_backward an l w s frame id span (Index base name) p.0 vs t fit (index_path base name) p.1 f r q
-  kind_pays w s frame map id span (At base key) around is f r h inside placed marked vs t q = cc
+  kind_pays w s frame map id span (Index base name) around is f r h inside placed marked vs t q = index_pays w s frame map id span base name around f r h inside placed marked vs t q
+      (index_means an w s frame id span base name fit r inside)
+  kind_pays w s frame map id span (At base key) around is f r h inside placed marked vs t q =
+      at_backward an l fit fwd bwd w s frame map id span base key around f r h inside placed marked vs t q
   kind_pays w s frame map id span (Call callee args) around is f r h inside placed marked vs t q =
       call_backward an l fit fwd bwd w s frame map id span callee args around (not_required (frame.reading.required id) is) f r h inside placed marked vs t q
   kind_pays w s frame map id span (Method base name name_span args) around is f r h inside placed marked vs t q = cc

@@ -4,7 +4,7 @@ ghost use Rattle.std.specs.Prelude.{◌≡◌, true, false, [], ◌∷◌};
 ghost use Rattle.luau_tree.specs.Tree.{NilExpr};
 ghost use Rattle.luau_run.specs.Certain.{Certain};
 ghost use Rattle.luau_run.specs.runs.Builders.{str};
-ghost use Rattle.report_rules.specs.rows.Calls.{abs_of, abs_of_none, less, local_added, counting_to_nil, of_nil, called, indexed, negated, measured, one_added};
+ghost use Rattle.report_rules.specs.rows.Calls.{abs_of, abs_of_none, less, local_added, counting_to_nil, of_nil, called, indexed, method_called, negated, measured, one_added};
 ghost use Rattle.report_rules.specs.rows.Functions.{abs_x, lower_x};
 ghost use Rattle.report_rules.specs.rows.Straight.{unknown_x, in_literal};
 ghost use Rattle.run_frame.specs.Analysis.{Analysis};
@@ -28,7 +28,8 @@ pub fn reported_modules_are_straight()
     ensures length { is_straight_module (of_nil measured).reading ≡ true }
     ensures arithmetic { is_straight_module (of_nil one_added).reading ≡ true }
     ensures compound { is_straight_module (local_added NilExpr).reading ≡ true }
-    ensures no_field { is_straight_module (of_nil indexed).reading ≡ false }
+    ensures index { is_straight_module (of_nil indexed).reading ≡ true }
+    ensures no_method { is_straight_module (of_nil method_called).reading ≡ false }
     ensures no_loop { is_straight_module counting_to_nil.reading ≡ false }
     ensures no_literal { is_straight_module in_literal.reading ≡ false }
 {}
