@@ -57,10 +57,10 @@ use Rattle.run_frame.proofs.Forms.{value_gave, Evaluated, evaluated, IsForm, for
 use Rattle.run_frame.proofs.ListsBack.{Check, by_set, operand_quiet, operand_safe, Checks, SomeIn, ev_checks, found_checks, list_pays}
 use Rattle.straight_certain.proofs.Arguments.{checks_args, ev_args_same, found_args_same, AreGiven, list_given, Took, args_taken, none_missing, callee_took}
 
-call_form : (callee : Expr) (args : Exprs) → IsForm (Call callee args)
+pub call_form : (callee : Expr) (args : Exprs) → IsForm (Call callee args)
 call_form callee args = record { nameless = refl; pathless = refl; no_local = λ rules id span. refl }
 
-within_call : (frame : Frame) (id : ℕ) (span : _) (callee : Expr) (args : Exprs) → Inside frame (of_expr (the_expr id span (Call callee args))) (stats_of_expr (the_expr id span (Call callee args)))
+pub within_call : (frame : Frame) (id : ℕ) (span : _) (callee : Expr) (args : Exprs) → Inside frame (of_expr (the_expr id span (Call callee args))) (stats_of_expr (the_expr id span (Call callee args)))
     → Inside frame (of_expr callee ++ of_exprs args) (stats_of_expr callee ++ stats_of_exprs args)
 within_call frame id span callee args h =
     record { nodes = sub_tail (AnExpr (the_expr id span (Call callee args))) (of_expr callee ++ of_exprs args) (of_block frame.reading.block) h.nodes; stats = h.stats }
@@ -230,7 +230,7 @@ args_calm false a b e = cc
 -- ---- forward
 
 -- the kind's name that `type` gives
-subject_parts : (rules : Rules) (id : ℕ) (span : _) (callee : Expr) (args : Exprs) (x : ℕ) → kind_subject rules (the_expr id span (Call callee args)) ≡ Some x
+pub subject_parts : (rules : Rules) (id : ℕ) (span : _) (callee : Expr) (args : Exprs) (x : ℕ) → kind_subject rules (the_expr id span (Call callee args)) ≡ Some x
     → (e : Expr) × (args ≡ more_exprs e no_exprs) × (fixed_builtin rules callee ≡ Some (codes "type")) × (firm_local rules e ≡ Some x)
 subject_parts rules id span callee no_exprs x k = cc
 subject_parts rules id span callee (more_exprs e (more_exprs next rest)) x k = cc

@@ -12,9 +12,9 @@ use Rattle.luau_run.specs.ReadModule.{Use, UseLocal, UseBuiltin, UseLibrary, Use
 use Rattle.luau_run.specs.Machine.{Reach, Part, ◌>>=◌, give, spend, step, log, ask, make_table}
 use Rattle.luau_run.specs.Answers.{a_string}
 use Rattle.luau_run.specs.Layer.{Frame, Ending, Falls, Returns, Layer}
-use Rattle.luau_run.specs.Operators.{is_true, binary}
+use Rattle.luau_run.specs.Operators.{is_true, binary, named_field}
 use Rattle.luau_run.specs.Calls.{block, block_rest}
-use Rattle.luau_run.specs.Expressions.{value, item_fields, all_values, each_value, chosen, binary_rest, one, reach, call_expr, evaluate, evaluate_or_builtin, values}
+use Rattle.luau_run.specs.Expressions.{value, base_of, item_fields, all_values, each_value, chosen, binary_rest, one, reach, call_expr, evaluate, evaluate_or_builtin, values}
 use Rattle.luau_run.specs.Loops.{declare}
 use Rattle.luau_run.specs.Statements.{Target, target, targets, write_to, write_all, read_from, place_of, branches, execute, stat}
 use Rattle.straight_certain.specs.Straight.{is_straight, is_straight_stat}
@@ -67,7 +67,9 @@ evaluate_closed program l frame id (Call callee args) h = by_required (frame.rea
     by_required : (o : Option ℕ) → not (is_some o) ≡ true → call_expr (closed l) frame o callee args ≡ call_expr l frame o callee args
     by_required (Some at) k = cc
     by_required None k = ap (λ (p : Part (List Value)). ◌>>=◌ (value l frame callee) (λ f. ◌>>=◌ p (λ values. ◌>>=◌ step (λ x. l.call f values)))) (all_closed l frame args)
-evaluate_closed program l frame id (Method base name name_span args) h = cc
+evaluate_closed program l frame id (Method base name name_span args) h =
+    ap (λ (p : Part (List Value)). ◌>>=◌ (base_of l frame base) (λ b. ◌>>=◌ p (λ values. ◌>>=◌ (named_field program name b) (λ f. ◌>>=◌ step (λ x. l.call f (b.value ∷ values))))))
+    (all_closed l frame args)
 evaluate_closed program l frame id (Paren e) h = refl
 evaluate_closed program l frame id (Unary op e) h = refl
 evaluate_closed program l frame id (Binary op left right) h = simp (binary_closed program l frame op)

@@ -11,5 +11,7 @@ pub mod ItemForms
 pub mod TableForms
 pub mod FieldReads
 pub mod ReadForms
+pub mod MethodForms
 pub mod StraightForms
+pub mod Modules
 pub mod Sound

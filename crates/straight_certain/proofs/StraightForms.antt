@@ -49,6 +49,7 @@ use Rattle.straight_certain.proofs.CallForms.{Freezes, call_forward, call_backwa
 use Rattle.straight_certain.proofs.AssignForms.{AreNames, assign_forward, assign_backward}
 use Rattle.straight_certain.proofs.CompoundForms.{IsPlainName, compound_forward, compound_backward}
 use Rattle.straight_certain.proofs.TableForms.{table_forward, table_backward}
+use Rattle.straight_certain.proofs.MethodForms.{method_forward, method_backward}
 use Rattle.straight_certain.proofs.ReadForms.{index_forward, index_backward, at_forward, at_backward}
 use Rattle.straight_certain.proofs.SmallForms.{dots_forward, dots_backward, IsIdle, idle_forward, idle_backward}
 
@@ -158,7 +159,8 @@ module _ (an : Analysis) (l : Layer) (fit : Fit an) (straight : IsStraight an.pr
   values_kind w s frame map id span (At base key) is f r h inside placed = at_forward an l fit fwd w s frame map id span base key f r h inside placed
   values_kind w s frame map id span (Call callee args) is f r h inside placed =
       call_forward an l fit fwd freezes w s frame map id span callee args (not_required (frame.reading.required id) is) f r h inside placed
-  values_kind w s frame map id span (Method base name name_span args) is f r h inside placed = cc
+  values_kind w s frame map id span (Method base name name_span args) is f r h inside placed =
+      method_forward an l fit fwd w s frame map id span base name name_span args f r h inside placed
   values_kind w s frame map id span (Paren e) is f r h inside placed = paren_forward an l fit fwd w s frame map id span e f r h inside placed
   values_kind w s frame map id span (Unary op e) is f r h inside placed = unary_forward an l fit fwd w s frame map id span op e f r h inside placed
   values_kind w s frame map id span (Binary op left right) is f r h inside placed = binary_either w s frame map id span op left right f r h inside placed
@@ -234,7 +236,8 @@ module _ (an : Analysis) (l : Layer) (fit : Fit an) (straight : IsStraight an.pr
       at_backward an l fit fwd bwd w s frame map id span base key around f r h inside placed marked vs t q
   kind_pays w s frame map id span (Call callee args) around is f r h inside placed marked vs t q =
       call_backward an l fit fwd bwd w s frame map id span callee args around (not_required (frame.reading.required id) is) f r h inside placed marked vs t q
-  kind_pays w s frame map id span (Method base name name_span args) around is f r h inside placed marked vs t q = cc
+  kind_pays w s frame map id span (Method base name name_span args) around is f r h inside placed marked vs t q =
+      method_backward an l fit fwd bwd w s frame map id span base name name_span args around f r h inside placed marked vs t q
   kind_pays w s frame map id span (Paren e) around is f r h inside placed marked vs t q = paren_backward an l fit fwd bwd w s frame map id span e around f r h inside placed marked vs t q
   kind_pays w s frame map id span (Unary op e) around is f r h inside placed marked vs t q = unary_backward an l fit fwd bwd w s frame map id span op e around f r h inside placed marked vs t q
   kind_pays w s frame map id span (Binary op left right) around is f r h inside placed marked vs t q = either_pays w s frame map id span op left right around f r h inside placed marked vs t q

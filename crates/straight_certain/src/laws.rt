@@ -29,7 +29,7 @@ pub fn reported_modules_are_straight()
     ensures arithmetic { is_straight_module (of_nil one_added).reading ≡ true }
     ensures compound { is_straight_module (local_added NilExpr).reading ≡ true }
     ensures index { is_straight_module (of_nil indexed).reading ≡ true }
-    ensures no_method { is_straight_module (of_nil method_called).reading ≡ false }
+    ensures method { is_straight_module (of_nil method_called).reading ≡ true }
     ensures no_loop { is_straight_module counting_to_nil.reading ≡ false }
     ensures no_literal { is_straight_module in_literal.reading ≡ false }
 {}
