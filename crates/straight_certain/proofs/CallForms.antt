@@ -194,14 +194,14 @@ quiet_callee an frame callee vs None table e fixed q = cc
 quiet_callee an frame callee vs (Some path) table e fixed q = subst (λ (xs : List Value). is_quiet an.program (first xs) ≡ true) (sym (fixed path refl))
     (quiet_fixed an path (declaration an.program.builtins path) (declared (rules_of an frame) path) (table path) q)
 
-abbrev call_doer : Analysis → Frame → Expr → Exprs → Doer
+abbrev pub call_doer : Analysis → Frame → Expr → Exprs → Doer
 call_doer an frame callee args = part_of frame (not (is_quiet_call (rules_of an frame) callee) || (effects (rules_of an frame) callee || any_effects (rules_of an frame) args))
 
 -- what is asked of the callee, and the checked builtin that it certainly is
-abbrev callee_check : (an : Analysis) (frame : Frame) (callee : Expr) → Check an frame callee
+abbrev pub callee_check : (an : Analysis) (frame : Frame) (callee : Expr) → Check an frame callee
 callee_check an frame callee = by_set an frame callee call_fail (Operand CallOp)
 
-abbrev called_builtin : Analysis → Frame → Expr → Option TypedBuiltin
+abbrev pub called_builtin : Analysis → Frame → Expr → Option TypedBuiltin
 called_builtin an frame callee = checked_callee (rules_of an frame) (seen_of an frame) callee
 
 may_call : (an : Analysis) (frame : Frame) (callee : Expr) (args : Exprs) (f : Value) → (is_quiet_call (rules_of an frame) callee ≡ true → is_quiet an.program f ≡ true)
@@ -222,7 +222,7 @@ callee_calm true true b e = cc
 callee_calm true false b e = refl
 callee_calm false a b e = cc
 
-args_calm : (p a b : Bool) → not p || (a || b) ≡ false → b ≡ false
+pub args_calm : (p a b : Bool) → not p || (a || b) ≡ false → b ≡ false
 args_calm true true b e = cc
 args_calm true false b e = e
 args_calm false a b e = cc

@@ -1,4 +1,4 @@
--- A layer whose loops and requires are spent at once does with straight code what the layer does.
+-- A layer whose loops are spent at once does with straight code what the layer does.
 use Rattle.std.proofs.Common.{◌≡◌, ℕ, true, not, if◌then◌else◌, List, ◌∷◌, Option, Some, None, is_some, [], refl, ◌∙◌, ap}
 use Rattle.luau_values.specs.Value.{Value, Tab}
 use Rattle.luau_values.specs.Heap as heaps
@@ -20,7 +20,7 @@ use Rattle.luau_run.specs.Statements.{Target, target, targets, write_to, write_a
 use Rattle.straight_certain.specs.Straight.{is_straight, is_straight_stat}
 
 abbrev pub closed : Layer → Layer
-closed l = record l { turns = λ frame loop. spend; require = λ module_at. spend }
+closed l = record l { turns = λ frame loop. spend }
 
 -- ---- expressions
 
@@ -50,7 +50,7 @@ items_closed l frame (more_items (Field name e) rest) fields = simp (items_close
 items_closed l frame (more_items (Keyed key e) rest) fields = simp (items_closed l frame rest)
 items_closed l frame (more_items (Plain e) rest) fields = simp (items_closed l frame rest)
 
-evaluate_closed : (program : Program) (l : Layer) (frame : Frame) (id : ℕ) (kind : ExprKind) → is_straight frame.reading id kind ≡ true
+evaluate_closed : (program : Program) (l : Layer) (frame : Frame) (id : ℕ) (kind : ExprKind) → is_straight kind ≡ true
     → evaluate program (closed l) frame id kind ≡ evaluate program l frame id kind
 evaluate_closed program l frame id NilExpr h = refl
 evaluate_closed program l frame id TrueExpr h = refl
@@ -62,11 +62,11 @@ evaluate_closed program l frame id (FunctionExpr body) h = refl
 evaluate_closed program l frame id (NameExpr name) h = refl
 evaluate_closed program l frame id (Index base name) h = refl
 evaluate_closed program l frame id (At base key) h = refl
-evaluate_closed program l frame id (Call callee args) h = by_required (frame.reading.required id) h
+evaluate_closed program l frame id (Call (the_expr at span callee) args) h = by_required (frame.reading.required id)
   where
-    by_required : (o : Option ℕ) → not (is_some o) ≡ true → call_expr (closed l) frame o callee args ≡ call_expr l frame o callee args
-    by_required (Some at) k = cc
-    by_required None k = ap (λ (p : Part (List Value)). ◌>>=◌ (value l frame callee) (λ f. ◌>>=◌ p (λ values. ◌>>=◌ step (λ x. l.call f values)))) (all_closed l frame args)
+    by_required : (o : Option ℕ) → call_expr (closed l) frame o (the_expr at span callee) args ≡ call_expr l frame o (the_expr at span callee) args
+    by_required (Some other) = ap (λ (p : Part (List Value)). ◌>>=◌ (reach frame at) (λ x. ◌>>=◌ p (λ values. ◌>>=◌ step (λ y. l.require other)))) (all_closed l frame args)
+    by_required None = ap (λ (p : Part (List Value)). ◌>>=◌ (value l frame (the_expr at span callee)) (λ f. ◌>>=◌ p (λ values. ◌>>=◌ step (λ x. l.call f values)))) (all_closed l frame args)
 evaluate_closed program l frame id (Method base name name_span args) h =
     ap (λ (p : Part (List Value)). ◌>>=◌ (base_of l frame base) (λ b. ◌>>=◌ p (λ values. ◌>>=◌ (named_field program name b) (λ f. ◌>>=◌ step (λ x. l.call f (b.value ∷ values))))))
     (all_closed l frame args)
@@ -79,7 +79,7 @@ evaluate_closed program l frame id (TableExpr items) h =
 evaluate_closed program l frame id (Interp texts parts) h = ap (λ (p : Part (Unit {0})). one (◌>>=◌ p (λ x. ask a_string))) (each_closed l frame parts)
 evaluate_closed program l frame id (Assert e typ) h = refl
 
-use_closed : (program : Program) (l : Layer) (frame : Frame) (id : ℕ) (kind : ExprKind) (o : Option Use) → is_straight frame.reading id kind ≡ true
+use_closed : (program : Program) (l : Layer) (frame : Frame) (id : ℕ) (kind : ExprKind) (o : Option Use) → is_straight kind ≡ true
     → evaluate_or_builtin program (closed l) frame id kind o ≡ evaluate_or_builtin program l frame id kind o
 use_closed program l frame id kind (Some (UseBuiltin path)) h = refl
 use_closed program l frame id kind (Some (UseLocal x)) h = evaluate_closed program l frame id kind h
@@ -87,7 +87,7 @@ use_closed program l frame id kind (Some UseLibrary) h = evaluate_closed program
 use_closed program l frame id kind (Some UseGlobal) h = evaluate_closed program l frame id kind h
 use_closed program l frame id kind None h = evaluate_closed program l frame id kind h
 
-pub values_closed : (program : Program) (l : Layer) (frame : Frame) (id : ℕ) (span : _) (kind : ExprKind) → is_straight frame.reading id kind ≡ true
+pub values_closed : (program : Program) (l : Layer) (frame : Frame) (id : ℕ) (span : _) (kind : ExprKind) → is_straight kind ≡ true
     → values program (closed l) frame (the_expr id span kind) ≡ values program l frame (the_expr id span kind)
 unfolding values
 values_closed program l frame id span kind h =

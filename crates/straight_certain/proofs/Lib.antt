@@ -12,6 +12,7 @@ pub mod TableForms
 pub mod FieldReads
 pub mod ReadForms
 pub mod MethodForms
-pub mod StraightForms
 pub mod Modules
+pub mod RequireForms
+pub mod StraightForms
 pub mod Sound

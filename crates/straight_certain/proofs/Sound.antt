@@ -42,6 +42,7 @@ use Rattle.straight_certain.specs.Straight.{IsStraight}
 use Rattle.straight_certain.proofs.BuiltinActs.{acts_forward}
 use Rattle.straight_certain.proofs.BuiltinCalls.{NoBodies, call_forward}
 use Rattle.straight_certain.proofs.CallForms.{Freezes}
+use Rattle.straight_certain.proofs.Modules.{ModuleGives, entered, require_forward}
 use Rattle.straight_certain.proofs.Closed.{closed, block_closed, values_closed, stat_closed}
 use Rattle.straight_certain.proofs.StraightForms.{nodes_straight, expr_straight, stat_straight, values_forward, stat_forward, values_pays, stat_pays}
 
@@ -84,7 +85,7 @@ module _ (an : Analysis) (fit : Fit an) (straight : IsStraight an.program) (dept
     stat = λ w s frame map st f r h inside placed. by_stat w s frame map st f r h inside placed;
     turns = λ w s frame map loop f r h steady inside placed there. f.stays;
     call = λ w s callee args f there all. call_forward an depth (no_bodies an straight) fwd.acts w s callee args f all;
-    require = λ w s at other f q. f.stays;
+    require = λ w s at other f q. require_forward an fit (layer_of an.program depth) fwd bwd w s other f;
     acts = λ w s freedom aim f. acts_forward an (layer_of an.program depth) fwd.call fwd.acts w s freedom aim f;
   }
     where
@@ -134,71 +135,9 @@ sound an fit straight (suc depth) =
 
 -- ---- a run
 
--- where no context stands behind, no end is bad
-no_bad_end : (an : Analysis) (frame : Frame) (ending : Ending) (t : State) → EndsBad an frame none none none ending t → ⊥
-no_bad_end an frame Falls t h = none_violated an frame t h
-no_bad_end an frame Breaks t h = none_violated an frame t h
-no_bad_end an frame Continues t h = none_violated an frame t h
-no_bad_end an frame (Returns vs) t h = h
-
-zero_or_more : (n : ℕ) (P : Type 0) → (n ≡ 0 → P) → (0 < n → P) → P
-zero_or_more zero P a b = a refl
-zero_or_more (suc n) P a b = b (omega arith)
-
--- a module's own body, entered where a run may be
-module _ (an : Analysis) (fit : Fit an) (straight : IsStraight an.program) (depth at : ℕ) (reading : ReadModule) (here : slice_get an.program.modules at ≡ Some reading) (w : World) (s : State) (f : Fine an w s) where
-  -- its frame
-  abbrev body_frame : Frame
-  body_frame = frame_of at reading [] s.store.begun
-
-  same_reading : (an.rules at).reading ≡ reading
-  same_reading = (fit.modules at reading here).same
-
-  inside_body : Inside body_frame (of_block reading.block) (stats_of_block reading.block)
-  inside_body = record { nodes = λ x c. c; stats = λ x c. c }
-
-  placed_body : Placed an body_frame (seen_block (an.rules at) no_map reading.block)
-  placed_body = subst (λ (x : ReadModule). Sub (seen_block (an.rules at) no_map x.block) (seen_block (an.rules at) no_map (an.rules at).reading.block)) same_reading (λ x c. c)
-
-  marked_body : Marked an body_frame (found_block (an.rules at) (seen_of an body_frame) reading.block none none none)
-  marked_body = subst (λ (x : ReadModule). Sub (found_block (an.rules at) (seen_of an body_frame) x.block none none none) (findings (an.rules at))) same_reading (λ x c. c)
-
-  begun_fine : Fine an (with_module w at) (one_begun s)
-  begun_fine = fine_begun an w s at f
-
-  begun_runs : Runs an (with_module w at) (one_begun s) body_frame
-  begun_runs = runs_begun an w s at reading [] f here tt
-
-  begun_held : Held an body_frame no_map (one_begun s)
-  begun_held = held_begun an w s body_frame no_map f refl refl (λ x firm. (s.store.heap, Nil, refl))
-
-  body_ends : Ends an (block_of an body_frame reading.block) (with_module w at) (one_begun s) (λ ending t. Unit {0}) (block (layer_of an.program depth) body_frame reading.block (one_begun s))
-  body_ends = subst (λ (p : Part Ending). Ends an (block_of an body_frame reading.block) (with_module w at) (one_begun s) (λ ending t. Unit {0}) (p (one_begun s)))
-      (block_closed (layer_of an.program depth) body_frame reading.block)
-      (ends_so an (block_of an body_frame reading.block) (with_module w at) (one_begun s) (BlockLeads an body_frame no_map reading.block) (λ ending t. Unit {0})
-      (block (closed (layer_of an.program depth)) body_frame reading.block (one_begun s)) (λ ending t v e g k p. tt)
-      (block_forward an (closed (layer_of an.program depth)) (sound an fit straight depth).0 (with_module w at) (one_begun s) body_frame no_map reading.block begun_fine begun_runs begun_held
-      inside_body placed_body))
-
-  -- a body that gave had reached no reported place
-  body_quiet : (ending : Ending) (t : State) → block (layer_of an.program depth) body_frame reading.block (one_begun s) ≡ Gave ending t → reached an s.store.begun t.trace ≡ 0
-  body_quiet ending t q = zero_or_more (reached an s.store.begun t.trace) (reached an s.store.begun t.trace ≡ 0) (λ e. e)
-      (λ e. absurd (no_bad_end an body_frame ending t (block_backward an (closed (layer_of an.program depth)) (sound an fit straight depth).0 (sound an fit straight depth).1
-      (with_module w at) (one_begun s) body_frame no_map reading.block none none none begun_fine begun_runs begun_held inside_body placed_body marked_body
-      (spare_none (an.rules at), spare_none (an.rules at), spare_none (an.rules at)) ending t
-      (ap (λ (p : Part Ending). p (one_begun s)) (block_closed (layer_of an.program depth) body_frame reading.block) ∙ q)
-      (inr (omega (arith, e, f.young s.store.begun (omega arith)))))))
-
-  pub module_ends : Ends an (nobody false) w s (λ ending t. Unit {0}) (activate (λ activation. block (layer_of an.program depth) (frame_of at reading [] activation) reading.block) s)
-  module_ends = ends_activate an (block_of an body_frame reading.block) false w s at (λ ending t. Unit {0})
-      (λ activation. block (layer_of an.program depth) (frame_of at reading [] activation) reading.block) f refl (λ e. cc) body_ends body_quiet (λ x t p. p)
-
-entered : (an : Analysis) → Fit an → IsStraight an.program → (depth at : ℕ) (o : Option ReadModule) → slice_get an.program.modules at ≡ o → (w : World) (s : State) → Fine an w s
-    → Ends an (nobody false) w s (λ ending t. Unit {0}) (enter_module (layer_of an.program depth) at o s)
-unfolding spend
-entered an fit straight depth at None e w s f = f.stays
-entered an fit straight depth at (Some reading) e w s f = module_ends an fit straight depth at reading e w s f
-
 pub straight_certain : (an : Analysis) → IsStraight an.program → Fit an → Certain an.program an.reports
 straight_certain an straight fit = certain_of an (λ ending t. Unit {0})
-    (λ entry steps tape. entered an fit straight (suc (steps + length tape)) entry (slice_get an.program.modules entry) refl no_world (start an.program steps tape) (fine_start an steps tape))
+    (λ entry steps tape. ends_so an (nobody false) no_world (start an.program steps tape) (ModuleGives an entry) (λ ending t. Unit {0})
+    (enter_module (layer_of an.program (suc (steps + length tape))) entry (slice_get an.program.modules entry) (start an.program steps tape)) (λ ending t v e g k p. tt)
+    (entered an fit (layer_of an.program (suc (steps + length tape))) (sound an fit straight (suc (steps + length tape))).0 (sound an fit straight (suc (steps + length tape))).1
+    entry (slice_get an.program.modules entry) refl no_world (start an.program steps tape) (fine_start an steps tape)))

@@ -4,6 +4,7 @@ use Rattle.std.specs.List.{AllByRecursion, list_all}
 use Rattle.luau_values.specs.Value.{Value}
 use Rattle.luau_tree.specs.Tree.{Expr, the_expr, Exprs, no_exprs, more_exprs, ExprKind, NilExpr, TrueExpr, FalseExpr, NumberExpr, StrExpr, Vararg, FunctionExpr, NameExpr, Index, At, Call, Method, Paren, Unary, Binary, IfElse, TableExpr, Interp, Assert}
 use Rattle.luau_tree.specs.Tree.{Stat, the_stat, StatKind, Assign, Compound, CallStat, Do, If, Local, TypeAlias, TypeFunction, Return}
+use Rattle.luau_tree.specs.declared.position.Span.{Span}
 use Rattle.luau_tree.specs.declared.names.BinOp.{BinOp}
 use Rattle.luau_tree.specs.declared.names.BinOp.TheVariants.{Or, And}
 use Rattle.luau_run.specs.ReadFolder.{may_mean}
@@ -46,6 +47,7 @@ use Rattle.run_frame.proofs.Leaving.{return_forward}
 use Rattle.run_frame.proofs.Wanted.{return_backward}
 use Rattle.straight_certain.specs.Straight.{are_names, is_path, is_straight, is_straight_stat, is_straight_node, is_straight_statement, is_straight_module, IsStraight}
 use Rattle.straight_certain.proofs.CallForms.{Freezes, call_forward, call_backward}
+use Rattle.straight_certain.proofs.RequireForms.{required_forward, required_backward}
 use Rattle.straight_certain.proofs.AssignForms.{AreNames, assign_forward, assign_backward}
 use Rattle.straight_certain.proofs.CompoundForms.{IsPlainName, compound_forward, compound_backward}
 use Rattle.straight_certain.proofs.TableForms.{table_forward, table_backward}
@@ -79,7 +81,7 @@ stats_straight program m reading st straight e c = all_contained (λ x. is_strai
     (all_at (λ x. is_straight_module x ≡ true) program.modules m reading (all_at_once is_straight_module program.modules straight) e)).1) c
 
 pub expr_straight : (an : Analysis) (w : World) (s : State) (frame : Frame) (id : ℕ) (span : _) (kind : ExprKind) → IsStraight an.program → Runs an w s frame
-    → Inside frame (of_expr (the_expr id span kind)) (stats_of_expr (the_expr id span kind)) → is_straight frame.reading id kind ≡ true
+    → Inside frame (of_expr (the_expr id span kind)) (stats_of_expr (the_expr id span kind)) → is_straight kind ≡ true
 expr_straight an w s frame id span kind straight r inside = nodes_straight an.program frame.module_at frame.reading (AnExpr (the_expr id span kind)) straight r.reading
     (inside.nodes (AnExpr (the_expr id span kind)) (contains_head (AnExpr (the_expr id span kind)) (of_expr_kind kind)))
 
@@ -87,10 +89,6 @@ pub stat_straight : (an : Analysis) (w : World) (s : State) (frame : Frame) (spa
     → Inside frame (of_stat (the_stat span kind)) (stats_of (the_stat span kind)) → is_straight_stat frame.reading kind ≡ true
 stat_straight an w s frame span kind straight r inside = stats_straight an.program frame.module_at frame.reading (the_stat span kind) straight r.reading
     (inside.stats (the_stat span kind) (contains_head (the_stat span kind) (stats_of_kind kind)))
-
-not_required : (o : Option ℕ) → not (is_some o) ≡ true → o ≡ None
-not_required None e = refl
-not_required (Some at) e = cc
 
 -- `a.p` is a builtin's path, or stands for nothing
 abbrev IndexMeans : Option Use → Type 0
@@ -143,7 +141,15 @@ module _ (an : Analysis) (l : Layer) (fit : Fit an) (straight : IsStraight an.pr
   index_values w s frame map id span base name f r h inside placed (inl unused) = index_forward an l fit fwd w s frame map id span base name unused f r h inside placed
   index_values w s frame map id span base name f r h inside placed (inr p) = path_forward an l w s frame map id span (Index base name) p.0 fit (index_path base name) p.1 f r
 
-  values_kind : (w : World) (s : State) (frame : Frame) (map : TypeMap) (id : ℕ) (span : _) (kind : ExprKind) → is_straight frame.reading id kind ≡ true → Fine an w s → Runs an w s frame
+  call_values : (w : World) (s : State) (frame : Frame) (map : TypeMap) (id : ℕ) (span : Span) (callee : Expr) (args : Exprs) → Fine an w s → Runs an w s frame → Held an frame map s
+      → Inside frame (of_expr (the_expr id span (Call callee args))) (stats_of_expr (the_expr id span (Call callee args)))
+      → Placed an frame (seen_expr (rules_of an frame) map (the_expr id span (Call callee args))) → (o : Option ℕ) → frame.reading.required id ≡ o
+      → Ends an (expr_of an frame (the_expr id span (Call callee args))) w s (Gives an frame map (the_expr id span (Call callee args))) (values an.program l frame (the_expr id span (Call callee args)) s)
+  call_values w s frame map id span callee args f r h inside placed None required = call_forward an l fit fwd freezes w s frame map id span callee args required f r h inside placed
+  call_values w s frame map id span callee args f r h inside placed (Some other) required =
+      required_forward an l fit fwd w s frame map id span callee args other required f r h inside placed
+
+  values_kind : (w : World) (s : State) (frame : Frame) (map : TypeMap) (id : ℕ) (span : _) (kind : ExprKind) → is_straight kind ≡ true → Fine an w s → Runs an w s frame
       → Held an frame map s → Inside frame (of_expr (the_expr id span kind)) (stats_of_expr (the_expr id span kind)) → Placed an frame (seen_expr (rules_of an frame) map (the_expr id span kind))
       → Ends an (expr_of an frame (the_expr id span kind)) w s (Gives an frame map (the_expr id span kind)) (values an.program l frame (the_expr id span kind) s)
   values_kind w s frame map id span NilExpr is f r h inside placed = plain_forward an l w s frame map id span NilExpr _ fit plain_nil f r inside
@@ -157,8 +163,7 @@ module _ (an : Analysis) (l : Layer) (fit : Fit an) (straight : IsStraight an.pr
   values_kind w s frame map id span (Index base name) is f r h inside placed = index_values w s frame map id span base name f r h inside placed
       (index_means an w s frame id span base name fit r inside)
   values_kind w s frame map id span (At base key) is f r h inside placed = at_forward an l fit fwd w s frame map id span base key f r h inside placed
-  values_kind w s frame map id span (Call callee args) is f r h inside placed =
-      call_forward an l fit fwd freezes w s frame map id span callee args (not_required (frame.reading.required id) is) f r h inside placed
+  values_kind w s frame map id span (Call callee args) is f r h inside placed = call_values w s frame map id span callee args f r h inside placed (frame.reading.required id) refl
   values_kind w s frame map id span (Method base name name_span args) is f r h inside placed =
       method_forward an l fit fwd w s frame map id span base name name_span args f r h inside placed
   values_kind w s frame map id span (Paren e) is f r h inside placed = paren_forward an l fit fwd w s frame map id span e f r h inside placed
@@ -218,7 +223,18 @@ module _ (an : Analysis) (l : Layer) (fit : Fit an) (straight : IsStraight an.pr
   index_pays w s frame map id span base name around f r h inside placed marked vs t q (inr p) =
       path_backward an l w s frame id span (Index base name) p.0 vs t fit (index_path base name) p.1 f r q
 
-  kind_pays : (w : World) (s : State) (frame : Frame) (map : TypeMap) (id : ℕ) (span : _) (kind : ExprKind) (around : List ReportKind) → is_straight frame.reading id kind ≡ true → Fine an w s
+  call_pays : (w : World) (s : State) (frame : Frame) (map : TypeMap) (id : ℕ) (span : Span) (callee : Expr) (args : Exprs) (around : List ReportKind) → Fine an w s → Runs an w s frame
+      → Held an frame map s → Inside frame (of_expr (the_expr id span (Call callee args))) (stats_of_expr (the_expr id span (Call callee args)))
+      → Placed an frame (seen_expr (rules_of an frame) map (the_expr id span (Call callee args)))
+      → Marked an frame (found (rules_of an frame) (seen_of an frame) around (the_expr id span (Call callee args)))
+      → (vs : List Value) (t : State) → values an.program l frame (the_expr id span (Call callee args)) s ≡ Gave vs t → (o : Option ℕ) → frame.reading.required id ≡ o
+      → Pays an frame (the_expr id span (Call callee args)) s vs t
+  call_pays w s frame map id span callee args around f r h inside placed marked vs t q None required =
+      call_backward an l fit fwd bwd w s frame map id span callee args around required f r h inside placed marked vs t q
+  call_pays w s frame map id span callee args around f r h inside placed marked vs t q (Some other) required =
+      required_backward an l fit fwd bwd w s frame map id span callee args around other required f r h inside placed marked vs t q
+
+  kind_pays : (w : World) (s : State) (frame : Frame) (map : TypeMap) (id : ℕ) (span : _) (kind : ExprKind) (around : List ReportKind) → is_straight kind ≡ true → Fine an w s
       → Runs an w s frame → Held an frame map s → Inside frame (of_expr (the_expr id span kind)) (stats_of_expr (the_expr id span kind))
       → Placed an frame (seen_expr (rules_of an frame) map (the_expr id span kind)) → Marked an frame (found (rules_of an frame) (seen_of an frame) around (the_expr id span kind))
       → (vs : List Value) (t : State) → values an.program l frame (the_expr id span kind) s ≡ Gave vs t → Pays an frame (the_expr id span kind) s vs t
@@ -235,7 +251,7 @@ module _ (an : Analysis) (l : Layer) (fit : Fit an) (straight : IsStraight an.pr
   kind_pays w s frame map id span (At base key) around is f r h inside placed marked vs t q =
       at_backward an l fit fwd bwd w s frame map id span base key around f r h inside placed marked vs t q
   kind_pays w s frame map id span (Call callee args) around is f r h inside placed marked vs t q =
-      call_backward an l fit fwd bwd w s frame map id span callee args around (not_required (frame.reading.required id) is) f r h inside placed marked vs t q
+      call_pays w s frame map id span callee args around f r h inside placed marked vs t q (frame.reading.required id) refl
   kind_pays w s frame map id span (Method base name name_span args) around is f r h inside placed marked vs t q =
       method_backward an l fit fwd bwd w s frame map id span base name name_span args around f r h inside placed marked vs t q
   kind_pays w s frame map id span (Paren e) around is f r h inside placed marked vs t q = paren_backward an l fit fwd bwd w s frame map id span e around f r h inside placed marked vs t q

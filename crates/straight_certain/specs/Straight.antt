@@ -1,7 +1,7 @@
--- Straight code: no function bodies, no writes to fields, no loops and no static requires.
-use Rattle.std.specs.Prelude.{◌≡◌, ℕ, Bool, true, false, not, ◌&&◌, List, Option, Some, is_some}
+-- Straight code: no function bodies, no writes to fields and no loops.
+use Rattle.std.specs.Prelude.{◌≡◌, ℕ, Bool, true, false, not, ◌&&◌, List, Option, Some}
 use Rattle.std.specs.List.{list_all}
-use Rattle.luau_tree.specs.Tree.{Expr, the_expr, Exprs, no_exprs, more_exprs, ExprKind, FunctionExpr, NameExpr, Call, Stat, the_stat, StatKind, Assign, Compound, CallStat, Do, If, Local, TypeAlias, TypeFunction, Return}
+use Rattle.luau_tree.specs.Tree.{Expr, the_expr, Exprs, no_exprs, more_exprs, ExprKind, FunctionExpr, NameExpr, Stat, the_stat, StatKind, Assign, Compound, CallStat, Do, If, Local, TypeAlias, TypeFunction, Return}
 use Rattle.luau_run.specs.ReadModule.{Use, UseBuiltin, ReadModule}
 use Rattle.luau_run.specs.SyntaxNode.{SyntaxNode, AnExpr, ABody, ABind, of_block}
 use Rattle.luau_run.specs.Program.{Program}
@@ -12,12 +12,10 @@ abbrev pub is_path : Option Use → Bool
 is_path (Some (UseBuiltin path)) = true
 is_path _ = false
 
--- whether an expression is straight: a constant, a name, a builtin's path, a read of a field or an element, a call that is no static
--- require, a call of a method, an operator, `and`, `or`, an if-expression, a table, an interpolation, an expression in parentheses or with `::`, or `...`
-abbrev pub is_straight : ReadModule → (id : ℕ) → ExprKind → Bool
-is_straight reading id (FunctionExpr body) = false
-is_straight reading id (Call callee args) = not (is_some (reading.required id))
-is_straight reading id _ = true
+-- whether an expression is straight, which all but a function is
+abbrev pub is_straight : ExprKind → Bool
+is_straight (FunctionExpr body) = false
+is_straight _ = true
 
 -- whether an expression is a name, and whether each of some is; and whether it is one that isn't a builtin's
 abbrev pub is_name : Expr → Bool
@@ -48,7 +46,7 @@ is_straight_stat reading _ = false
 
 -- whether a node of a module is straight, which no function body is; and whether a statement is
 abbrev pub is_straight_node : ReadModule → SyntaxNode → Bool
-is_straight_node reading (AnExpr (the_expr id span kind)) = is_straight reading id kind
+is_straight_node reading (AnExpr (the_expr id span kind)) = is_straight kind
 is_straight_node reading (ABody body) = false
 is_straight_node reading (ABind bind) = true
 
