@@ -1,10 +1,10 @@
 -- Arguments against the parameters of a checked builtin, backward.
-use Rattle.std.proofs.Common.{◌≡◌, ◌≢◌, ℕ, zero, suc, ◌+◌, ◌<◌, ◌≤◌, Bool, true, false, not, ◌&&◌, if◌then◌else◌, List, [], ◌∷◌, ◌++◌, length, Option, Some, None, ◌⊎◌, inl, inr, refl, sym, ◌∙◌, ap, subst, arith, drop}
+use Rattle.std.proofs.Common.{◌≡◌, ◌≢◌, ℕ, zero, suc, ◌+◌, ◌≤◌, Bool, true, false, not, ◌&&◌, if◌then◌else◌, List, [], ◌∷◌, ◌++◌, length, Option, Some, None, inl, inr, refl, sym, ◌∙◌, ap, subst, arith, drop}
 use Rattle.luau_values.specs.Value.{Value, Nil, Builtin}
 use Rattle.luau_values.specs.Heap.{Heap}
 use Rattle.luau_tree.specs.Tree.{Expr, Exprs, no_exprs, more_exprs}
 use Rattle.luau_run.specs.ValueSet.{ValueSet, everything, set_or, all_in}
-use Rattle.luau_run.specs.Signature.{Signature, declaration, takes}
+use Rattle.luau_run.specs.Signature.{Signature, declaration}
 use Rattle.luau_run.specs.SyntaxNode.{of_expr, of_exprs}
 use Rattle.luau_run.specs.Machine.{State, Gave, give}
 use Rattle.luau_run.specs.Layer.{Frame, Layer, first}
@@ -16,25 +16,25 @@ use Rattle.type_normal.specs.Operations.{union, fail}
 use Rattle.type_normal.specs.Kinds.{nil_type, has_nil, exactly_one_function}
 use Rattle.type_normal.proofs.Public.{never_none, fail_holds, fail_free, one_function_holds, no_nil_holds}
 use Rattle.subtype_check.specs.Below.{below}
-use Rattle.report_rules.specs.Rules.{TypedBuiltin, Rules, declared}
-use Rattle.report_rules.specs.Effects.{effects, any_effects, expands, last_expands}
+use Rattle.report_rules.specs.Rules.{TypedBuiltin, declared}
+use Rattle.report_rules.specs.Effects.{effects, last_expands}
 use Rattle.report_rules.specs.TypeMap.{TypeMap}
 use Rattle.report_rules.specs.Forward.{after}
 use Rattle.report_rules.specs.Seen.{seen_expr, seen_list}
 use Rattle.report_rules.specs.Context.{Context, none, followed}
-use Rattle.report_rules.specs.Checks.{ReportKind, type_of, further_set, set_at, argument_set, argument_kinds, argument_left, lacking, past, count, missing_at, missing, if_checked, checked_function}
+use Rattle.report_rules.specs.Checks.{type_of, set_at, argument_set, argument_kinds, argument_left, lacking, past, count, missing_at, missing, if_checked, checked_function}
 use Rattle.report_rules.specs.Errors.{ev, ev_args, expands_as}
 use Rattle.report_rules.specs.Findings.{Finding, found, found_args}
 use Rattle.report_rules.specs.Reports.{findings}
 use Rattle.run_frame.specs.Analysis.{Analysis}
 use Rattle.run_frame.specs.Statements.{stats_of_expr, stats_of_exprs}
-use Rattle.run_frame.specs.Fit.{IsOf, AreOf, MayBeOf, IsDeclaredAs, AreDeclared, FitModule, Fit}
+use Rattle.run_frame.specs.Fit.{IsOf, AreOf, MayBeOf, AreDeclared}
 use Rattle.run_frame.proofs.World.{World}
-use Rattle.run_frame.proofs.Counts.{is_reported, reached, one_if}
+use Rattle.run_frame.proofs.Counts.{reached, one_if}
 use Rattle.run_frame.proofs.Fine.{Fine}
 use Rattle.run_frame.proofs.Held.{Runs, Held}
 use Rattle.run_frame.proofs.Parts.{gave_same}
-use Rattle.run_frame.proofs.Layers.{rules_of, seen_of, Inside, Placed, Marked, Gives, Pays, Answers, Forward, Backward}
+use Rattle.run_frame.proofs.Layers.{rules_of, seen_of, Inside, Placed, Marked, Answers, Forward, Backward}
 use Rattle.run_frame.proofs.Readings.{sub_left, sub_right}
 use Rattle.run_frame.proofs.Lists.{inside_left, inside_right}
 use Rattle.run_frame.proofs.Blocks.{in_first, in_second}

@@ -1,6 +1,6 @@
 -- Assignments to locals and globals, forward and backward.
 use Rattle.std.proofs.Common.{◌≡◌, ◌<◌, ℕ, suc, ◌==◌, Bool, true, false, not, ◌&&◌, ◌||◌, if◌then◌else◌, List, [], ◌∷◌, ◌++◌, length, Option, Some, None, ◌⊎◌, inl, inr, refl, sym, ◌∙◌, ap, subst, arith, drop}
-use Rattle.std.specs.List.{AllByRecursion, filter_map, list_any}
+use Rattle.std.specs.List.{AllByRecursion, filter_map}
 use Rattle.luau_values.specs.Value.{Value}
 use Rattle.luau_values.specs.Heap.{Heap}
 use Rattle.luau_tree.specs.Tree.{Expr, the_expr, NameExpr, Exprs, no_exprs, more_exprs, the_stat, Assign}
@@ -27,7 +27,7 @@ use Rattle.report_rules.specs.Checks.{count}
 use Rattle.report_rules.specs.Statements.{wanted_of_local, wanted_of_targets, ev_values, before_writes, for_values, values_context, ev_targets, stm}
 use Rattle.report_rules.specs.Findings.{found_targets, found_values, found_stat}
 use Rattle.report_rules.specs.Reports.{findings}
-use Rattle.run_frame.specs.Analysis.{Analysis, is_loose}
+use Rattle.run_frame.specs.Analysis.{Analysis}
 use Rattle.run_frame.specs.Statements.{stats_of, stats_of_exprs, stats_of_block}
 use Rattle.run_frame.specs.Fit.{local_target, IsFitStat, Fit}
 use Rattle.run_frame.proofs.World.{World, all_map, set_length}
@@ -39,13 +39,13 @@ use Rattle.run_frame.proofs.Parts.{Ends, Same, ends_then, ends_so, ends_more, en
 use Rattle.run_frame.proofs.LooseContexts.{SparesAll, spare_pass}
 use Rattle.run_frame.proofs.Cells.{assigned}
 use Rattle.run_frame.proofs.Layers.{rules_of, seen_of, part_of, stat_of, Inside, Placed, Marked, Leads, EndsBad, Trouble, Forward, Backward}
-use Rattle.run_frame.proofs.Readings.{contains_head, all_contained, sub_tail, sub_left, sub_right, fits, reads_same}
+use Rattle.run_frame.proofs.Readings.{contains_head, all_contained, sub_tail, sub_right, fits, reads_same}
 use Rattle.run_frame.proofs.Passing.{held_after}
 use Rattle.run_frame.proofs.Lists.{ListGives, list_forward}
 use Rattle.run_frame.proofs.Blocks.{or_left, or_right, same_end}
 use Rattle.run_frame.proofs.Statements.{ends_stat, stat_gave, trouble_same}
 use Rattle.run_frame.proofs.Wanted.{wanted_set, AreFree, Lasts, SomeWanted, none_wanted, values_pay}
-use Rattle.straight_certain.proofs.Writes.{rule_targets, run_target, run_targets, assigned_locals, IsAssigned, ends_writes, Written, write_gave, writes_leave, write_reads}
+use Rattle.straight_certain.proofs.Writes.{rule_targets, run_target, run_targets, assigned_locals, IsAssigned, ends_writes, write_gave, writes_leave, write_reads}
 
 -- ---- targets that are names
 

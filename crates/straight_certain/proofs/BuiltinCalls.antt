@@ -1,34 +1,32 @@
 -- Calls of builtins and of values of no other kind, forward; and that no closure is ever made where no body stands in a module.
-use Rattle.std.proofs.Common.{◌≡◌, ◌<◌, ℕ, suc, Bool, true, false, not, ◌&&◌, if◌then◌else◌, List, [], ◌∷◌, length, Option, Some, None, inl, refl, sym, ◌∙◌, ap, subst, arith, codes, slice_get, Contains}
+use Rattle.std.proofs.Common.{◌≡◌, ℕ, suc, Bool, true, false, not, ◌&&◌, if◌then◌else◌, List, [], ◌∷◌, length, Option, Some, None, refl, sym, ◌∙◌, ap, subst, codes, slice_get, Contains}
 use Rattle.std.specs.List.{AllByRecursion, find}
 use Rattle.std.specs.Option.{option_map_or}
 use Rattle.std.specs.Str.{bytes_eq}
 use Rattle.std.proofs.lemmas.Slice.Eq.{bytes_eq-Decides}
 use Rattle.luau_values.specs.Value.{Value, Nil, Truth, Num, Str, Tab, Lit, Builtin, Other}
-use Rattle.luau_values.specs.Heap.{Heap, is_frozen, field_of, with_frozen}
+use Rattle.luau_values.specs.Heap.{is_frozen, field_of, with_frozen}
 use Rattle.luau_values.specs.Grows.{Grows}
 use Rattle.luau_values.specs.Stands.{Stands}
 use Rattle.luau_values.proofs.Public.{freeze_freezes, freeze_reads, stands_later}
 use Rattle.luau_tree.specs.Tree.{Body, the_body}
-use Rattle.luau_run.specs.Program.{Program}
 use Rattle.luau_run.specs.ReadModule.{ReadModule}
 use Rattle.luau_run.specs.Signature.{Signature, declaration, takes, may_give}
-use Rattle.luau_run.specs.SyntaxNode.{SyntaxNode, ABody, of_block, of_body}
-use Rattle.luau_run.specs.Machine.{Act, Write, Freeze, Make, Calls, Catches, Answer, Does, One, Says as Tells, Fail, Turn, Stop, Done, Closure, Store, State, Ran, Gave, Failed, Spent, Reply, Unfit, Fails, Fits, Part, ◌>>=◌, ◌>>◌, go_on, give, fail, spend, step, look, ask, catch, caught, make_table, write_field, freeze_table}
-use Rattle.luau_run.specs.Answers.{is_closure, fits_if, is_there, all_there, is_open, may_write, may_call, is_function, act_fits, Aim, ForResults, ForTurn, Freedom, Free, Quiet, Move, Acts, Ends as EndsWith, a_move, other_kind, is_other_kind, yes_or_fail}
+use Rattle.luau_run.specs.SyntaxNode.{ABody, of_block, of_body}
+use Rattle.luau_run.specs.Machine.{Answer, One, Closure, Store, State, Ran, Gave, Failed, Spent, Fits, ◌>>=◌, go_on, give, fail, spend, look, ask, freeze_table}
+use Rattle.luau_run.specs.Answers.{is_closure, fits_if, ForResults, Free, other_kind, is_other_kind, yes_or_fail}
 use Rattle.luau_run.specs.Layer.{Layer, first}
-use Rattle.luau_run.specs.Calls.{act, acts_from, acts, given_by, type_name, frozen, results_or_none, freedom_of, free_builtin, meaning, declared_call, call_builtin, call_closure, call}
+use Rattle.luau_run.specs.Calls.{given_by, type_name, frozen, results_or_none, freedom_of, free_builtin, meaning, declared_call, call_builtin, call_closure, call}
 use Rattle.luau_run.specs.Run.{layer_of, end_of}
 use Rattle.luau_run.proofs.FreezeFacts.{quiet_grows}
-use Rattle.type_normal.specs.Holds.{holds}
-use Rattle.type_normal.specs.Failing.{uncallable, call_fail}
+use Rattle.type_normal.specs.Failing.{uncallable}
 use Rattle.type_normal.proofs.Public.{kinds_hold}
 use Rattle.run_frame.specs.Analysis.{Analysis}
 use Rattle.run_frame.proofs.World.{World}
-use Rattle.run_frame.proofs.Kept.{Doer, MayMore, Kept, nobody}
+use Rattle.run_frame.proofs.Kept.{Doer, Kept, nobody}
 use Rattle.run_frame.proofs.Fine.{Fine, IsClosure}
-use Rattle.run_frame.proofs.Parts.{Ends, Same, Says, ends_so, ends_then, ends_more, ends_give, ends_fail, ends_ask, ends_step, ends_caught}
-use Rattle.run_frame.proofs.Tables.{with_heap, IsMade, IsWritten, ends_table, ends_write, ends_freeze}
+use Rattle.run_frame.proofs.Parts.{Ends, Same, Says, ends_so, ends_then, ends_give, ends_fail, ends_ask}
+use Rattle.run_frame.proofs.Tables.{with_heap, ends_freeze}
 use Rattle.run_frame.proofs.Layers.{is_quiet, IsKindName, Answers}
 use Rattle.run_frame.proofs.Readings.{contains_head}
 use Rattle.run_frame.proofs.Forms.{first_stands}

@@ -1,5 +1,5 @@
 -- Calls as expressions, forward and backward; static requires aside.
-use Rattle.std.proofs.Common.{◌≡◌, ◌≢◌, ℕ, ◌<◌, ◌≤◌, Bool, true, false, not, ◌||◌, ◌&&◌, if◌then◌else◌, List, [], ◌∷◌, ◌++◌, length, Option, Some, None, ◌⊎◌, inl, inr, refl, sym, ◌∙◌, ap, subst, arith, codes, slice_get}
+use Rattle.std.proofs.Common.{◌≡◌, ℕ, ◌<◌, ◌≤◌, Bool, true, false, not, ◌||◌, ◌&&◌, if◌then◌else◌, List, [], ◌∷◌, ◌++◌, length, Option, Some, None, ◌⊎◌, inl, inr, refl, sym, ◌∙◌, ap, subst, arith, codes, slice_get}
 use Rattle.std.specs.List.{AllByRecursion}
 use Rattle.std.specs.Option.{option_map_or}
 use Rattle.std.specs.Str.{bytes_eq}
@@ -12,23 +12,21 @@ use Rattle.luau_values.specs.Stands.{Stands}
 use Rattle.luau_values.proofs.Public.{stands_later}
 use Rattle.luau_tree.specs.Tree.{Expr, the_expr, Exprs, no_exprs, more_exprs, Call}
 use Rattle.luau_tree.specs.declared.names.Op.TheVariants.{Call as CallOp}
-use Rattle.luau_run.specs.Program.{Program}
 use Rattle.luau_run.specs.ReadModule.{Use, ReadModule}
 use Rattle.luau_run.specs.ValueSet.{ValueSet, nothing, set_or, all_in}
-use Rattle.luau_run.specs.Signature.{Signature, declaration, may_give}
+use Rattle.luau_run.specs.Signature.{Signature, declaration}
 use Rattle.luau_run.specs.SyntaxNode.{AnExpr, of_expr, of_exprs, of_block}
-use Rattle.luau_run.specs.Machine.{Store, State, Gave, Part, go_on, ◌>>=◌, give, step}
+use Rattle.luau_run.specs.Machine.{Store, State, Gave, go_on, ◌>>=◌, step}
 use Rattle.luau_run.specs.Layer.{Frame, Layer, first}
-use Rattle.luau_run.specs.Expressions.{cell_of, value, all_values, values, call_expr, evaluate}
-use Rattle.type_arena.specs.Term.{Function, builtin, literal, Term, never}
+use Rattle.luau_run.specs.Expressions.{cell_of, value, all_values, values, call_expr}
+use Rattle.type_arena.specs.Term.{Function, builtin, literal, Term}
 use Rattle.type_normal.specs.Holds.{holds}
-use Rattle.type_normal.specs.Operations.{union}
-use Rattle.type_normal.specs.Kinds.{unknown, nil_type, exactly_one_function}
+use Rattle.type_normal.specs.Kinds.{nil_type, exactly_one_function}
 use Rattle.type_normal.specs.Failing.{uncallable, call_fail}
 use Rattle.type_normal.specs.Field.{frozen_rows}
 use Rattle.type_normal.proofs.Public.{unknown_all, kinds_hold, one_function_holds, grown_holds, frozen_holds}
 use Rattle.report_rules.specs.Rules.{TypedBuiltin, Rules, loose, local_named, fixed_use, fixed_builtin, declared, is_quiet_call}
-use Rattle.report_rules.specs.Effects.{effects, any_effects, last_expands}
+use Rattle.report_rules.specs.Effects.{effects, any_effects}
 use Rattle.report_rules.specs.Guard.{firm_only, firm_local, is_type, kind_subject}
 use Rattle.report_rules.specs.TypeMap.{TypeMap}
 use Rattle.report_rules.specs.Forward.{typ, builtin_or, first_result, declared_result, call_result, call_type, types_of_list, first_or_never, after}
@@ -40,8 +38,8 @@ use Rattle.report_rules.specs.Findings.{Finding, found, found_args}
 use Rattle.report_rules.specs.Reports.{findings}
 use Rattle.run_frame.specs.Analysis.{Analysis, is_loose}
 use Rattle.run_frame.specs.Statements.{stats_of_expr, stats_of_exprs}
-use Rattle.run_frame.specs.Fit.{IsOf, AreOf, MayBeOf, AreDeclared, FitModule, Fit}
-use Rattle.run_frame.proofs.World.{World, all_map}
+use Rattle.run_frame.specs.Fit.{AreOf, MayBeOf, AreDeclared, Fit}
+use Rattle.run_frame.proofs.World.{World}
 use Rattle.run_frame.proofs.Counts.{reached}
 use Rattle.run_frame.proofs.Kept.{Doer, MayMore, Kept, nobody, kept_same}
 use Rattle.run_frame.proofs.Fine.{Fine, fine_same}
@@ -54,7 +52,7 @@ use Rattle.run_frame.proofs.Lists.{ListGives, list_forward, may_part, may_first,
 use Rattle.run_frame.proofs.Blocks.{in_first, in_second}
 use Rattle.run_frame.proofs.Marks.{typed_at}
 use Rattle.run_frame.proofs.Forms.{value_gave, Evaluated, evaluated, IsForm, form_read, form_forward, FormPays, form_backward, After, value_forward, first_stands}
-use Rattle.run_frame.proofs.ListsBack.{Check, by_set, operand_quiet, operand_safe, Checks, SomeIn, ev_checks, found_checks, list_pays}
+use Rattle.run_frame.proofs.ListsBack.{Check, by_set, operand_quiet, operand_safe, SomeIn, found_checks, list_pays}
 use Rattle.straight_certain.proofs.Arguments.{checks_args, ev_args_same, found_args_same, AreGiven, list_given, Took, args_taken, none_missing, callee_took}
 
 pub call_form : (callee : Expr) (args : Exprs) → IsForm (Call callee args)

@@ -1,5 +1,5 @@
 -- A layer whose loops are spent at once does with straight code what the layer does.
-use Rattle.std.proofs.Common.{◌≡◌, ℕ, true, not, if◌then◌else◌, List, ◌∷◌, Option, Some, None, is_some, [], refl, ◌∙◌, ap}
+use Rattle.std.proofs.Common.{◌≡◌, ℕ, true, if◌then◌else◌, List, ◌∷◌, Option, Some, None, [], refl, ◌∙◌, ap}
 use Rattle.luau_values.specs.Value.{Value, Tab}
 use Rattle.luau_values.specs.Heap as heaps
 use Rattle.luau_tree.specs.Tree.{Expr, the_expr, Exprs, no_exprs, more_exprs, ExprKind, NilExpr, TrueExpr, FalseExpr, NumberExpr, StrExpr, Vararg, FunctionExpr, NameExpr, Index, At, Call, Method, Paren, Unary, Binary, IfElse, TableExpr, Interp, Assert, Choices, no_choices, more_choices, Field, Keyed, Plain, Items, no_items, more_items}

@@ -16,7 +16,7 @@ use Rattle.luau_run.specs.Layer.{Frame, Ending, Falls, Layer, first}
 use Rattle.luau_run.specs.Operators.{binary}
 use Rattle.luau_run.specs.Expressions.{cell_of, value}
 use Rattle.luau_run.specs.Statements.{Target, name_target, write_all, write_to, read_from, stat, execute}
-use Rattle.type_arena.specs.Term.{Term, never}
+use Rattle.type_arena.specs.Term.{Term}
 use Rattle.type_normal.specs.Holds.{holds}
 use Rattle.type_normal.specs.Kinds.{unknown}
 use Rattle.type_normal.proofs.Public.{unknown_all}
@@ -24,16 +24,16 @@ use Rattle.subtype_check.proofs.Public.{below_includes}
 use Rattle.report_rules.specs.Rules.{Rules}
 use Rattle.report_rules.specs.Effects.{of_name, target_of, effects, is_in_table, writes_local}
 use Rattle.report_rules.specs.TypeMap.{TypeMap, stored_all, written}
-use Rattle.report_rules.specs.Forward.{typ, after, builtin_or, name_type, target_use, type_of_target, binary_type}
+use Rattle.report_rules.specs.Forward.{typ, after, builtin_or, name_type, target_use, type_of_target}
 use Rattle.report_rules.specs.After.{compound_type}
 use Rattle.report_rules.specs.Seen.{SeenExpr, seen_expr, seen_target, seen_stat}
-use Rattle.report_rules.specs.Context.{Context, join, followed}
-use Rattle.report_rules.specs.Checks.{ReportKind, Operand, type_of, check, left, operand_set}
-use Rattle.report_rules.specs.Errors.{ev, name_context, unless_builtin}
-use Rattle.report_rules.specs.Statements.{before_write, before_writes, old_set, old_kinds, old_left, added_kinds, added_left, ev_added, stm}
-use Rattle.report_rules.specs.Findings.{Finding, found, found_compound, found_stat}
+use Rattle.report_rules.specs.Context.{Context, join}
+use Rattle.report_rules.specs.Checks.{Operand, type_of, operand_set}
+use Rattle.report_rules.specs.Errors.{name_context}
+use Rattle.report_rules.specs.Statements.{before_writes, old_set, old_kinds, old_left, added_kinds, ev_added, stm}
+use Rattle.report_rules.specs.Findings.{found, found_compound, found_stat}
 use Rattle.report_rules.specs.Reports.{findings}
-use Rattle.run_frame.specs.Analysis.{Analysis, is_loose}
+use Rattle.run_frame.specs.Analysis.{Analysis}
 use Rattle.run_frame.specs.Statements.{stats_of, stats_of_expr, stats_of_block}
 use Rattle.run_frame.specs.Fit.{IsFitStat, Fit}
 use Rattle.run_frame.proofs.World.{World}
@@ -41,22 +41,21 @@ use Rattle.run_frame.proofs.Counts.{is_reported, reached, one_if}
 use Rattle.run_frame.proofs.Kept.{Doer, MayMore, Kept, kept_same}
 use Rattle.run_frame.proofs.Fine.{Sub, IsBoundWell, Fine, fine_same}
 use Rattle.run_frame.proofs.Held.{Runs, runs_kept, Reads, Held, held_same, held_store, Violated, violated_same}
-use Rattle.run_frame.proofs.Parts.{Ends, Same, ends_then, ends_so, ends_more, ends_give, ends_gave, gave_then, gave_same}
+use Rattle.run_frame.proofs.Parts.{Ends, Same, ends_then, ends_more, ends_give, ends_gave, gave_then, gave_same}
 use Rattle.run_frame.proofs.Activations.{IsReached, ends_reached}
-use Rattle.run_frame.proofs.LooseContexts.{SparesAll}
-use Rattle.run_frame.proofs.Layers.{rules_of, seen_of, part_of, expr_of, stat_of, Inside, Placed, Marked, Leads, EndsBad, Trouble, Forward, Backward}
+use Rattle.run_frame.proofs.Layers.{rules_of, seen_of, expr_of, stat_of, Inside, Placed, Marked, Leads, EndsBad, Trouble, Forward, Backward}
 use Rattle.run_frame.proofs.Readings.{contains_head, all_contained, sub_tail, sub_left, sub_right, fits, reads_same}
 use Rattle.run_frame.proofs.Passing.{none_violated, violated_join}
-use Rattle.run_frame.proofs.Names.{ends_local, ends_any, IsNamed, named_typed, named_context}
+use Rattle.run_frame.proofs.Names.{ends_local, ends_any, named_typed, named_context}
 use Rattle.run_frame.proofs.Lists.{FirstOf}
 use Rattle.run_frame.proofs.Marks.{mark_tells, typed_at, checked_below}
-use Rattle.run_frame.proofs.Blocks.{count_split, same_end}
-use Rattle.run_frame.proofs.Statements.{ends_stat, stat_gave, trouble_same}
-use Rattle.run_frame.proofs.Forms.{value_gave, Evaluated, evaluated, After, value_forward, first_stands}
+use Rattle.run_frame.proofs.Blocks.{same_end}
+use Rattle.run_frame.proofs.Statements.{ends_stat, stat_gave}
+use Rattle.run_frame.proofs.Forms.{value_gave, Evaluated, evaluated, After, value_forward}
 use Rattle.run_frame.proofs.ListsBack.{Check, left_in, by_set, operand_then}
 use Rattle.run_frame.proofs.Operators.{BinGives, ends_binary, binary_typed, left_fails, right_fails}
 use Rattle.straight_certain.proofs.Writes.{rule_targets, run_target, run_targets, assigned_locals, IsAssigned, ends_writes, Written, writes_leave}
-use Rattle.straight_certain.proofs.AssignForms.{IsName, before_in}
+use Rattle.straight_certain.proofs.AssignForms.{before_in}
 
 -- ---- a target that is a name
 

@@ -1,31 +1,29 @@
 -- Reads of fields and elements: what they give, of which type that is, and what fails; and bases, which may be names of libraries.
-use Rattle.std.proofs.Common.{◌≡◌, ◌<◌, ℕ, Bool, true, false, not, ◌&&◌, ◌||◌, if◌then◌else◌, List, [], ◌∷◌, ◌++◌, Option, Some, None, is_some, ◌⊎◌, inl, inr, refl, sym, ◌∙◌, ap, subst, arith, codes}
-use Rattle.std.specs.Option.{option_map_or}
+use Rattle.std.proofs.Common.{◌≡◌, ℕ, Bool, true, false, not, ◌&&◌, ◌||◌, if◌then◌else◌, List, [], ◌∷◌, ◌++◌, Option, Some, None, is_some, refl, sym, ◌∙◌, ap, subst, codes}
 use Rattle.luau_values.specs.Value.{Value, Nil, Truth, Num, Str, Tab, Lit, Builtin, Other, is_nil}
 use Rattle.luau_values.specs.Heap.{Heap, field_of}
 use Rattle.luau_values.specs.Stands.{Stands}
-use Rattle.luau_tree.specs.Tree.{Expr, the_expr, ExprKind, NilExpr, TrueExpr, FalseExpr, NumberExpr, StrExpr, Vararg, FunctionExpr, NameExpr, Index, At, Call, Method, Paren, Unary, Binary, IfElse, TableExpr, Interp, Assert}
+use Rattle.luau_tree.specs.Tree.{Expr, the_expr, ExprKind, NameExpr}
 use Rattle.luau_run.specs.Program.{Program}
 use Rattle.luau_run.specs.ReadModule.{Use, UseLocal, UseBuiltin, UseLibrary, UseGlobal, ReadModule}
-use Rattle.luau_run.specs.ReadFolder.{may_mean, local_of, is_library_name}
+use Rattle.luau_run.specs.ReadFolder.{may_mean, local_of}
 use Rattle.luau_run.specs.Signature.{declaration}
 use Rattle.luau_run.specs.SyntaxNode.{AnExpr, of_expr, of_expr_kind}
-use Rattle.luau_run.specs.Machine.{Store, State, Gave, go_on, ◌>>=◌, give, fail, look}
+use Rattle.luau_run.specs.Machine.{Store, State, Gave, ◌>>=◌, give, fail, look}
 use Rattle.luau_run.specs.Layer.{Frame, Layer, first}
 use Rattle.luau_run.specs.Operators.{Base, field, string_field, named_field, other_element, element, anything, any_value}
 use Rattle.luau_run.specs.Expressions.{value, base_of, is_library, stands_for_library}
 use Rattle.type_arena.specs.Term.{Term, term, no_fields, more_fields, Members, only, all_but, never}
 use Rattle.type_normal.specs.Holds.{holds}
 use Rattle.type_normal.specs.Members.{is_no_set}
-use Rattle.type_normal.specs.Kinds.{unknown, table_type, has_kind, field_is}
+use Rattle.type_normal.specs.Kinds.{unknown, table_type, field_is}
 use Rattle.type_normal.specs.Failing.{unindexable, index_fail}
 use Rattle.type_normal.specs.Field.{field_type}
 use Rattle.type_normal.proofs.Public.{unknown_all, kinds_hold, field_holds, field_is_holds, row_tables}
-use Rattle.report_rules.specs.Rules.{Rules}
 use Rattle.report_rules.specs.TypeMap.{TypeMap}
 use Rattle.report_rules.specs.Forward.{typ, builtin_or, name_type, has_strings_or_other, property}
-use Rattle.report_rules.specs.Seen.{Seen, seen_expr}
-use Rattle.report_rules.specs.Context.{Context, none}
+use Rattle.report_rules.specs.Seen.{seen_expr}
+use Rattle.report_rules.specs.Context.{none}
 use Rattle.report_rules.specs.Errors.{ev, unless_builtin, name_context}
 use Rattle.run_frame.specs.Analysis.{Analysis}
 use Rattle.run_frame.specs.Statements.{stats_of_expr}
@@ -34,7 +32,7 @@ use Rattle.run_frame.proofs.World.{World}
 use Rattle.run_frame.proofs.Kept.{Doer}
 use Rattle.run_frame.proofs.Fine.{Fine}
 use Rattle.run_frame.proofs.Held.{Runs, Held}
-use Rattle.run_frame.proofs.Parts.{Ends, Same, ends_then, ends_so, ends_give, ends_fail, ends_gave, gave_then, gave_same, gave_not_failed}
+use Rattle.run_frame.proofs.Parts.{Ends, Same, ends_then, ends_so, ends_give, ends_fail, gave_then, gave_same}
 use Rattle.run_frame.proofs.Layers.{rules_of, seen_of, expr_of, Inside, Placed, Forward}
 use Rattle.run_frame.proofs.Readings.{contains_head, reads_same, means}
 use Rattle.run_frame.proofs.Names.{ends_any}

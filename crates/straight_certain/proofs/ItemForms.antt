@@ -1,6 +1,5 @@
 -- Constructors of tables, forward: what their fields are, and their type.
-use Rattle.std.proofs.Common.{◌≡◌, ◌≢◌, ◌<◌, ℕ, suc, Bool, true, false, not, ◌&&◌, ◌||◌, if◌then◌else◌, List, [], ◌∷◌, ◌++◌, length, Option, Some, None, ◌⊎◌, inl, inr, refl, sym, ◌∙◌, ap, subst, arith}
-use Rattle.std.specs.List.{AllByRecursion}
+use Rattle.std.proofs.Common.{◌≡◌, ◌≢◌, ℕ, Bool, true, false, ◌&&◌, ◌||◌, if◌then◌else◌, List, [], ◌∷◌, ◌++◌, Option, refl, sym, ◌∙◌, ap, subst, arith}
 use Rattle.std.specs.Str.{bytes_eq}
 use Rattle.std.specs.declared.cmp.Ordering.{Ordering}
 use Rattle.std.specs.declared.cmp.Ordering.TheVariants.{Less, Equal, Greater}
@@ -12,44 +11,42 @@ use Rattle.luau_values.specs.Later.{Later}
 use Rattle.luau_values.specs.Grows.{Grows}
 use Rattle.luau_values.specs.Start.{name_cmp}
 use Rattle.luau_values.specs.Stands.{Stands, FieldsStand}
-use Rattle.luau_values.proofs.Public.{write_reads, write_leaves, stands_later, table_grows, table_adds_one}
-use Rattle.luau_tree.specs.Tree.{Expr, the_expr, StrExpr, NumberExpr, TableExpr, Item, Field, Keyed, Plain, Items, no_items, more_items}
+use Rattle.luau_values.proofs.Public.{write_reads, write_leaves, stands_later}
+use Rattle.luau_tree.specs.Tree.{Expr, the_expr, StrExpr, NumberExpr, Item, Field, Keyed, Plain, Items, no_items, more_items}
 use Rattle.luau_run.specs.ReadModule.{Use}
-use Rattle.luau_run.specs.SyntaxNode.{AnExpr, of_block, of_expr, of_items, of_item}
-use Rattle.luau_run.specs.Machine.{Store, State, Ran, Gave, Failed, Spent, Part, go_on, ◌>>=◌, give, ask, make_table}
+use Rattle.luau_run.specs.SyntaxNode.{of_expr, of_items}
+use Rattle.luau_run.specs.Machine.{Store, State, Ran, Gave, Failed, Spent, Part, go_on, ◌>>=◌, give, ask}
 use Rattle.luau_run.specs.Answers.{yes_or_fail}
 use Rattle.luau_run.specs.Layer.{Frame, Layer, first}
-use Rattle.luau_run.specs.Expressions.{value, keyed_field, item_fields, one, values}
+use Rattle.luau_run.specs.Expressions.{value, keyed_field, item_fields}
 use Rattle.type_arena.specs.Term.{Term, Fields, no_fields, more_fields}
 use Rattle.type_normal.specs.Members.{by_order}
 use Rattle.type_normal.specs.Holds.{holds}
 use Rattle.type_normal.specs.HeapFree.{has_field}
 use Rattle.type_normal.specs.Operations.{put_field}
 use Rattle.type_normal.specs.Field.{all_typed}
-use Rattle.type_normal.specs.Kinds.{number_type, text_type, table_type, row_type}
-use Rattle.type_normal.proofs.Public.{text_holds, grown_holds, new_table_holds}
+use Rattle.type_normal.specs.Kinds.{number_type, text_type}
+use Rattle.type_normal.proofs.Public.{text_holds, grown_holds}
 use Rattle.type_normal.proofs.OrderFacts.{name_ties}
 use Rattle.report_rules.specs.Rules.{Rules}
 use Rattle.report_rules.specs.Effects.{effects, effects_of_item, effects_of_items}
 use Rattle.report_rules.specs.TypeMap.{TypeMap}
-use Rattle.report_rules.specs.Forward.{typ, builtin_or, held, after, after_part, is_named_key, has_other_key, with_earlier, with_keyed, fields_of_items, field_of_item}
-use Rattle.report_rules.specs.Seen.{seen_expr, seen_item, seen_items}
+use Rattle.report_rules.specs.Forward.{typ, builtin_or, held, after, after_part, has_other_key, with_earlier, fields_of_items}
+use Rattle.report_rules.specs.Seen.{seen_expr, seen_items}
 use Rattle.run_frame.specs.Analysis.{Analysis}
-use Rattle.run_frame.specs.Statements.{stats_of_block, stats_of_expr, stats_of_items, stats_of_item}
+use Rattle.run_frame.specs.Statements.{stats_of_expr, stats_of_items}
 use Rattle.run_frame.specs.Fit.{Fit}
 use Rattle.run_frame.proofs.World.{World}
 use Rattle.run_frame.proofs.Kept.{Doer, Kept}
 use Rattle.run_frame.proofs.Fine.{Fine}
-use Rattle.run_frame.proofs.Held.{Runs, runs_kept, Held, held_same, held_store}
+use Rattle.run_frame.proofs.Held.{Runs, runs_kept, Held}
 use Rattle.run_frame.proofs.Parts.{Ends, Same, Says, ends_then, ends_so, ends_more, ends_give, ends_ask}
-use Rattle.run_frame.proofs.Tables.{IsMade, ends_table}
 use Rattle.run_frame.proofs.Layers.{rules_of, seen_of, part_of, expr_of, Inside, Placed, Gives, Forward}
-use Rattle.run_frame.proofs.Readings.{sub_tail, sub_left, sub_right}
-use Rattle.run_frame.proofs.Names.{ends_one}
+use Rattle.run_frame.proofs.Readings.{sub_left, sub_right}
 use Rattle.run_frame.proofs.Passing.{held_after}
-use Rattle.run_frame.proofs.Lists.{may_part, may_first, may_second, first_false, second_false, held_typed, inside_left, inside_right, FirstOf}
+use Rattle.run_frame.proofs.Lists.{may_first, may_second, first_false, second_false, held_typed, inside_left, inside_right, FirstOf}
 use Rattle.run_frame.proofs.Blocks.{or_left, or_right}
-use Rattle.run_frame.proofs.Forms.{IsForm, form_read, form_forward, OneGives, one_gives, After, value_forward, first_stands}
+use Rattle.run_frame.proofs.Forms.{IsForm, form_read, After, value_forward, first_stands}
 
 -- ---- fields
 

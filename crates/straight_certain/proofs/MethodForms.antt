@@ -1,24 +1,21 @@
 -- Calls of methods, forward and backward.
-use Rattle.std.proofs.Common.{◌≡◌, ◌<◌, ◌≤◌, ℕ, Bool, true, false, not, ◌||◌, if◌then◌else◌, List, [], ◌∷◌, ◌++◌, Option, Some, None, ◌⊎◌, inl, inr, refl, sym, ◌∙◌, ap, subst, arith}
+use Rattle.std.proofs.Common.{◌≡◌, ◌<◌, ◌≤◌, ℕ, Bool, true, false, not, List, [], ◌∷◌, ◌++◌, Option, Some, None, ◌⊎◌, inl, inr, refl, sym, ◌∙◌, ap, subst, arith}
 use Rattle.std.specs.List.{AllByRecursion}
 use Rattle.luau_values.specs.Value.{Value}
-use Rattle.luau_values.specs.Later.{Later}
 use Rattle.luau_values.specs.Stands.{Stands}
 use Rattle.luau_values.proofs.Public.{stands_later}
 use Rattle.luau_tree.specs.Tree.{Expr, the_expr, Exprs, no_exprs, more_exprs, Method}
 use Rattle.luau_tree.specs.declared.names.Op.TheVariants.{Index as IndexOp}
-use Rattle.luau_run.specs.Program.{Program}
 use Rattle.luau_run.specs.ReadModule.{Use}
 use Rattle.luau_run.specs.SyntaxNode.{AnExpr, of_block, of_expr, of_exprs}
-use Rattle.luau_run.specs.Machine.{Store, State, Gave, go_on, ◌>>=◌, give, step}
+use Rattle.luau_run.specs.Machine.{Store, State, Gave, go_on, ◌>>=◌, step}
 use Rattle.luau_run.specs.Layer.{Frame, Layer, first}
 use Rattle.luau_run.specs.Operators.{Base, named_field}
 use Rattle.luau_run.specs.Expressions.{base_of, all_values, is_library, values}
 use Rattle.type_arena.specs.Term.{never}
 use Rattle.type_normal.specs.Holds.{holds}
-use Rattle.type_normal.specs.Operations.{union}
 use Rattle.type_normal.specs.Kinds.{unknown, field_is}
-use Rattle.type_normal.specs.Failing.{uncallable, unindexable, call_fail, index_fail}
+use Rattle.type_normal.specs.Failing.{unindexable, call_fail, index_fail}
 use Rattle.type_normal.proofs.Public.{unknown_all, never_none, union_holds, kinds_hold, grown_holds}
 use Rattle.report_rules.specs.Rules.{Rules, fixed_use}
 use Rattle.report_rules.specs.Effects.{effects, any_effects}
@@ -34,9 +31,9 @@ use Rattle.report_rules.specs.Reports.{findings}
 use Rattle.run_frame.specs.Analysis.{Analysis}
 use Rattle.run_frame.specs.Statements.{stats_of_expr, stats_of_exprs}
 use Rattle.run_frame.specs.Fit.{Fit}
-use Rattle.run_frame.proofs.World.{World, all_map}
+use Rattle.run_frame.proofs.World.{World}
 use Rattle.run_frame.proofs.Counts.{reached}
-use Rattle.run_frame.proofs.Kept.{Doer, MayMore, Kept, nobody, kept_same}
+use Rattle.run_frame.proofs.Kept.{MayMore, Kept, nobody, kept_same}
 use Rattle.run_frame.proofs.Fine.{Fine, fine_same}
 use Rattle.run_frame.proofs.Held.{Runs, runs_kept, has_begun, Held, held_store, Violated}
 use Rattle.run_frame.proofs.Parts.{Ends, Same, ends_so, ends_then, ends_more, ends_gave, ends_step, step_same, gave_then}
@@ -45,10 +42,10 @@ use Rattle.run_frame.proofs.Readings.{sub_tail, sub_left, sub_right}
 use Rattle.run_frame.proofs.Passing.{none_violated, violated_followed, one_of}
 use Rattle.run_frame.proofs.Lists.{ListGives, list_forward, may_part, inside_left, inside_right}
 use Rattle.run_frame.proofs.Forms.{Evaluated, evaluated, IsForm, form_read, form_forward, FormPays, form_backward, first_stands}
-use Rattle.run_frame.proofs.ListsBack.{by_set, operand_quiet, found_checks}
+use Rattle.run_frame.proofs.ListsBack.{by_set, operand_quiet}
 use Rattle.run_frame.proofs.Wanted.{SomeWanted, none_wanted, values_pay, checks_wanted, found_wanted}
-use Rattle.straight_certain.proofs.Arguments.{list_given, AreGiven}
-use Rattle.straight_certain.proofs.FieldReads.{IsFieldOf, NamedGives, named_field_ends, field_in, LibraryFacts, library_facts, BaseGives, base_forward, base_gave}
+use Rattle.straight_certain.proofs.Arguments.{list_given}
+use Rattle.straight_certain.proofs.FieldReads.{NamedGives, named_field_ends, field_in, library_facts, BaseGives, base_forward, base_gave}
 
 clash : {P : Type 0} (b : Bool) → b ≡ true → b ≡ false → P
 clash b p q = cc
@@ -131,8 +128,7 @@ method_forward an l fit fwd w s frame map id span base name name_span args f r h
         (named_field_ends an (part_of frame true) y n name b c)
         (λ f m x d e g. ends_then an (part_of frame true) x m (λ i t. Same m t) P (step m) (λ i. l.call f (b.value ∷ vs)) (ends_step an (part_of frame true) x m d)
         (λ i o z fine_o kept same. called f (b.value ∷ vs) o z fine_o
-        (subst (λ (s : Store). Stands s.heap f) (sym (same.0 ∙ g.0.same.0)) g.0.stands)
-        (
+        (subst (λ (s : Store). Stands s.heap f) (sym (same.0 ∙ g.0.same.0)) g.0.stands) (
           subst (λ (s : Store). Stands s.heap b.value) (sym (same.0 ∙ g.0.same.0)) (stands_later a.store.heap n.store.heap b.value k.heap
               (subst (λ (v : Value). Stands a.store.heap v) (sym p.0.1) (first_stands a.store.heap p.0.0 p.0.2.0.stand))),
           subst (λ (s : Store). AllByRecursion (Stands s.heap) vs) (sym (same.0 ∙ g.0.same.0)) q.stand,
@@ -163,9 +159,12 @@ parts_quiet : (an : Analysis) (l : Layer) → Fit an → Forward an l → Backwa
     → Held an frame map s → Inside frame (of_exprs es) (stats_of_exprs es) → Placed an frame (seen_list (rules_of an frame) map es)
     → Marked an frame (found_parts (rules_of an frame) (seen_of an frame) es) → (vs : List Value) (t : State) → all_values l frame es s ≡ Gave vs t
     → (Violated an frame (ev_parts (rules_of an frame) (seen_of an frame) es) s → ⊥) × (reached an frame.activation t.trace ≡ reached an frame.activation s.trace)
-parts_quiet an l fit fwd bwd w s frame map es f r h inside placed marked vs t q = (λ y. untroubled (inl y), level (reached an frame.activation s.trace) (reached an frame.activation t.trace)
-    (list_given an l fwd bwd w s frame map es (checks_wanted an frame [] es (inr tt)) f r h inside placed
-    (subst (λ (fs : List Finding). Marked an frame fs) (sym (found_wanted an frame [] es (inr tt))) marked_values) vs t q).1 (λ y. untroubled (inr y)))
+parts_quiet an l fit fwd bwd w s frame map es f r h inside placed marked vs t q = (
+  λ y. untroubled (inl y),
+  level (reached an frame.activation s.trace) (reached an frame.activation t.trace)
+      (list_given an l fwd bwd w s frame map es (checks_wanted an frame [] es (inr tt)) f r h inside placed
+      (subst (λ (fs : List Finding). Marked an frame fs) (sym (found_wanted an frame [] es (inr tt))) marked_values) vs t q).1 (λ y. untroubled (inr y)),
+)
   where
     marked_values : Marked an frame (found_values (rules_of an frame) (seen_of an frame) [] es)
     marked_values = subst (λ (fs : List Finding). Marked an frame fs) (sym (found_are (rules_of an frame) (seen_of an frame) es)) marked
@@ -246,8 +245,7 @@ method_backward an l fit fwd bwd w s frame map id span base name name_span args 
                   where
                     by_field : (x : World) × Fine an x e × Kept an (part_of frame true) v n x e × NamedGives n name b callee e → Paid m
                     by_field (x, fe, ke, field) = by_answer (ends_gave an (nobody (is_quiet an.program callee)) x d (Answers an callee (b.value ∷ vs) d) (l.call callee (b.value ∷ vs) d) rs u called
-                        (fwd.call x d callee (b.value ∷ vs) fine_d (subst (λ (s : Store). Stands s.heap callee) (sym stores) field.0.stands)
-                        (
+                        (fwd.call x d callee (b.value ∷ vs) fine_d (subst (λ (s : Store). Stands s.heap callee) (sym stores) field.0.stands) (
                           subst (λ (s : Store). Stands s.heap b.value) (sym stores) (stands_later a.store.heap n.store.heap b.value kn.heap base_stands),
                           subst (λ (s : Store). AllByRecursion (Stands s.heap) vs) (sym stores) p.stand,
                         )))

@@ -1,5 +1,5 @@
 -- A module's own body, run by an activation of its own: what it gives; and modules that are required.
-use Rattle.std.proofs.Common.{◌≡◌, ◌<◌, ◌+◌, ◌==◌, ℕ, zero, suc, Bool, true, false, if◌then◌else◌, List, [], ◌∷◌, Option, Some, None, inr, refl, sym, ◌∙◌, ap, subst, arith, slice_get}
+use Rattle.std.proofs.Common.{◌≡◌, ◌<◌, ◌==◌, ℕ, zero, suc, Bool, true, false, if◌then◌else◌, List, [], ◌∷◌, Option, Some, None, inr, refl, sym, ◌∙◌, ap, subst, arith, slice_get}
 use Rattle.std.specs.List.{AllByRecursion, find}
 use Rattle.std.specs.Option.{option_map}
 use Rattle.std.proofs.lemmas.Bool.{eqb-true}
@@ -9,7 +9,7 @@ use Rattle.luau_values.specs.Stands.{Stands}
 use Rattle.luau_tree.specs.Tree.{Block}
 use Rattle.luau_run.specs.ReadModule.{ReadModule}
 use Rattle.luau_run.specs.SyntaxNode.{of_block}
-use Rattle.luau_run.specs.Machine.{State, Ran, Gave, Part, go_on, ◌>>=◌, give, spend, look, change, activate}
+use Rattle.luau_run.specs.Machine.{State, Gave, Part, go_on, ◌>>=◌, give, spend, look, change, activate}
 use Rattle.luau_run.specs.Layer.{Frame, Ending, Falls, Breaks, Continues, Returns, Layer, first}
 use Rattle.luau_run.specs.Calls.{returned, block, frame_of, loaded_value, enter_module, require_from, require}
 use Rattle.type_arena.specs.Term.{Term, never}
@@ -19,8 +19,8 @@ use Rattle.type_normal.specs.Cut.{cut_up}
 use Rattle.type_normal.specs.Operations.{union}
 use Rattle.type_normal.specs.Kinds.{nil_type}
 use Rattle.type_normal.proofs.Public.{widen_above, cut_up_above, widen_free, cut_up_free}
-use Rattle.report_rules.specs.TypeMap.{TypeMap, no_map}
-use Rattle.report_rules.specs.After.{after_block, returned_block, where_live, summary}
+use Rattle.report_rules.specs.TypeMap.{no_map}
+use Rattle.report_rules.specs.After.{after_block, returned_block, where_live}
 use Rattle.report_rules.specs.Effects.{breaks_block}
 use Rattle.report_rules.specs.Seen.{seen_block}
 use Rattle.report_rules.specs.Context.{none}
@@ -37,7 +37,7 @@ use Rattle.run_frame.proofs.Held.{Runs, Held}
 use Rattle.run_frame.proofs.Parts.{Ends, ends_so, ends_then, ends_give}
 use Rattle.run_frame.proofs.Activations.{one_begun, fine_begun, runs_begun, held_begun, ends_activate}
 use Rattle.run_frame.proofs.Closures.{kept_all, with_loaded, fine_loaded}
-use Rattle.run_frame.proofs.Layers.{rules_of, seen_of, block_of, Inside, Placed, Marked, EndsBad, Forward, Backward}
+use Rattle.run_frame.proofs.Layers.{seen_of, block_of, Inside, Placed, Marked, EndsBad, Forward, Backward}
 use Rattle.run_frame.proofs.LooseContexts.{spare_none}
 use Rattle.run_frame.proofs.Passing.{none_violated}
 use Rattle.run_frame.proofs.Blocks.{in_first, in_second, BlockLeads, block_forward, block_backward}
@@ -98,11 +98,14 @@ module _ (an : Analysis) (fit : Fit an) (l : Layer) (fwd : Forward an (closed l)
   summary_is = ap (λ (x : ReadModule). given_type x.block) (sym same_reading) ∙ sym (fit.modules at reading here).gives
 
   gives_so : (ending : Ending) (t : State) → BlockLeads an body_frame no_map reading.block ending t → ModuleGives an at ending t
-  gives_so Falls t h = (tt, subst (λ (type : Term). holds t.store.heap Nil type ≡ true) summary_is
-      (cut_up_above t.store.heap Nil (widen (union (returned_block (an.rules at) no_map reading.block) (where_live (after_block (an.rules at) no_map reading.block) nil_type)))
-      (widen_above t.store.heap Nil (union (returned_block (an.rules at) no_map reading.block) (where_live (after_block (an.rules at) no_map reading.block) nil_type))
-      (in_second t.store.heap Nil (returned_block (an.rules at) no_map reading.block) (where_live (after_block (an.rules at) no_map reading.block) nil_type)
-      (where_it_lives (after_block (an.rules at) no_map reading.block).dead h.live)))))
+  gives_so Falls t h = (
+    tt,
+    subst (λ (type : Term). holds t.store.heap Nil type ≡ true) summary_is
+        (cut_up_above t.store.heap Nil (widen (union (returned_block (an.rules at) no_map reading.block) (where_live (after_block (an.rules at) no_map reading.block) nil_type)))
+        (widen_above t.store.heap Nil (union (returned_block (an.rules at) no_map reading.block) (where_live (after_block (an.rules at) no_map reading.block) nil_type))
+        (in_second t.store.heap Nil (returned_block (an.rules at) no_map reading.block) (where_live (after_block (an.rules at) no_map reading.block) nil_type)
+        (where_it_lives (after_block (an.rules at) no_map reading.block).dead h.live)))),
+  )
     where
       where_it_lives : (dead : Bool) → dead ≡ false → holds t.store.heap Nil (if dead then never else nil_type) ≡ true
       where_it_lives true e = cc
@@ -115,10 +118,13 @@ module _ (an : Analysis) (fit : Fit an) (l : Layer) (fwd : Forward an (closed l)
     where
       clash : (b : Bool) → b ≡ true → b ≡ false → ⊥
       clash b p q = cc
-  gives_so (Returns vs) t h = (first_there t.store.heap vs h.1, subst (λ (type : Term). holds t.store.heap (first vs) type ≡ true) summary_is
-      (cut_up_above t.store.heap (first vs) (widen (union (returned_block (an.rules at) no_map reading.block) (where_live (after_block (an.rules at) no_map reading.block) nil_type)))
-      (widen_above t.store.heap (first vs) (union (returned_block (an.rules at) no_map reading.block) (where_live (after_block (an.rules at) no_map reading.block) nil_type))
-      (in_first t.store.heap (first vs) (returned_block (an.rules at) no_map reading.block) (where_live (after_block (an.rules at) no_map reading.block) nil_type) h.2))))
+  gives_so (Returns vs) t h = (
+    first_there t.store.heap vs h.1,
+    subst (λ (type : Term). holds t.store.heap (first vs) type ≡ true) summary_is
+        (cut_up_above t.store.heap (first vs) (widen (union (returned_block (an.rules at) no_map reading.block) (where_live (after_block (an.rules at) no_map reading.block) nil_type)))
+        (widen_above t.store.heap (first vs) (union (returned_block (an.rules at) no_map reading.block) (where_live (after_block (an.rules at) no_map reading.block) nil_type))
+        (in_first t.store.heap (first vs) (returned_block (an.rules at) no_map reading.block) (where_live (after_block (an.rules at) no_map reading.block) nil_type) h.2))),
+  )
 
   body_ends : Ends an (block_of an body_frame reading.block) (with_module w at) (one_begun s) (ModuleGives an at) (block l body_frame reading.block (one_begun s))
   body_ends = subst (λ (p : Part Ending). Ends an (block_of an body_frame reading.block) (with_module w at) (one_begun s) (ModuleGives an at) (p (one_begun s)))

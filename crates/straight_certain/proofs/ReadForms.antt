@@ -1,36 +1,31 @@
 -- `a.p` and `a[k]`, forward and backward.
-use Rattle.std.proofs.Common.{◌≡◌, ◌+◌, ◌<◌, ℕ, Bool, true, false, not, ◌||◌, List, [], ◌∷◌, ◌++◌, Option, Some, None, ◌⊎◌, inl, inr, refl, sym, ◌∙◌, ap, subst, arith}
-use Rattle.luau_values.specs.Value.{Value, Str}
-use Rattle.luau_values.specs.Heap.{Heap}
-use Rattle.luau_values.specs.Later.{Later}
+use Rattle.std.proofs.Common.{◌≡◌, ℕ, Bool, true, false, ◌||◌, List, [], ◌∷◌, ◌++◌, Option, Some, None, ◌⊎◌, inl, inr, refl, sym, ◌∙◌, ap, subst}
+use Rattle.luau_values.specs.Value.{Value}
 use Rattle.luau_values.specs.Stands.{Stands}
-use Rattle.luau_tree.specs.Tree.{Expr, the_expr, ExprKind, StrExpr, Index, At}
+use Rattle.luau_tree.specs.Tree.{Expr, the_expr, StrExpr, Index, At}
 use Rattle.luau_tree.specs.declared.names.Op.TheVariants.{Index as IndexOp}
-use Rattle.luau_tree.specs.declared.names.Place.TheVariants.{Expr as ExprPlace}
-use Rattle.luau_run.specs.ReadModule.{Use, UseLocal, UseBuiltin, UseLibrary, UseGlobal, ReadModule}
-use Rattle.luau_run.specs.SyntaxNode.{AnExpr, of_block, of_expr, of_expr_kind}
-use Rattle.luau_run.specs.Machine.{Store, State, Gave, go_on, ◌>>=◌, give}
+use Rattle.luau_run.specs.ReadModule.{Use, ReadModule}
+use Rattle.luau_run.specs.SyntaxNode.{AnExpr, of_block, of_expr}
+use Rattle.luau_run.specs.Machine.{Store, State, Gave, go_on, ◌>>=◌}
 use Rattle.luau_run.specs.Layer.{Frame, Layer, first}
-use Rattle.luau_run.specs.Operators.{Base, named_field, element, is_true}
+use Rattle.luau_run.specs.Operators.{Base, named_field, element}
 use Rattle.luau_run.specs.Expressions.{value, base_of, is_library, one, values, evaluate, evaluate_or_builtin}
 use Rattle.type_arena.specs.Term.{Term, never}
 use Rattle.type_normal.specs.Holds.{holds}
-use Rattle.type_normal.specs.Operations.{union}
-use Rattle.type_normal.specs.Kinds.{unknown, table_type, field_is}
+use Rattle.type_normal.specs.Kinds.{field_is}
 use Rattle.type_normal.specs.Failing.{unindexable, index_fail}
 use Rattle.type_normal.proofs.Public.{unknown_all, never_none, union_holds, kinds_hold, grown_holds}
-use Rattle.report_rules.specs.Rules.{Rules, fixed_use, local_named}
+use Rattle.report_rules.specs.Rules.{Rules, fixed_use}
 use Rattle.report_rules.specs.Effects.{effects}
-use Rattle.report_rules.specs.Guard.{kind_subject, guard_of_kind}
 use Rattle.report_rules.specs.TypeMap.{TypeMap}
 use Rattle.report_rules.specs.Forward.{typ, type_of_kind, builtin_or, property, held, after}
 use Rattle.report_rules.specs.Seen.{seen_expr}
-use Rattle.report_rules.specs.Context.{Context, none, followed}
-use Rattle.report_rules.specs.Checks.{ReportKind, Operand, check, left}
+use Rattle.report_rules.specs.Context.{Context}
+use Rattle.report_rules.specs.Checks.{ReportKind, Operand, left}
 use Rattle.report_rules.specs.Errors.{ev, ev_in, unless_builtin, index_kinds, read_set}
-use Rattle.report_rules.specs.Findings.{read_kinds, own_kinds, found, found_in}
+use Rattle.report_rules.specs.Findings.{read_kinds, found}
 use Rattle.report_rules.specs.Reports.{findings}
-use Rattle.run_frame.specs.Analysis.{Analysis, is_loose}
+use Rattle.run_frame.specs.Analysis.{Analysis}
 use Rattle.run_frame.specs.Statements.{stats_of_expr}
 use Rattle.run_frame.specs.Fit.{Fit}
 use Rattle.run_frame.proofs.World.{World}
@@ -40,7 +35,7 @@ use Rattle.run_frame.proofs.Fine.{Fine}
 use Rattle.run_frame.proofs.Held.{Runs, runs_kept, Held, held_store, Violated, violated_same}
 use Rattle.run_frame.proofs.Parts.{Ends, ends_then, ends_so, ends_more, ends_gave, gave_then}
 use Rattle.run_frame.proofs.Layers.{rules_of, seen_of, part_of, expr_of, Inside, Placed, Marked, Gives, Pays, Forward, Backward}
-use Rattle.run_frame.proofs.Readings.{contains_head, means, reads_same, sub_tail, sub_left, sub_right}
+use Rattle.run_frame.proofs.Readings.{reads_same, sub_tail, sub_left, sub_right}
 use Rattle.run_frame.proofs.Names.{ends_one}
 use Rattle.run_frame.proofs.Passing.{none_violated, violated_followed, one_of}
 use Rattle.run_frame.proofs.Lists.{may_first, may_second, held_typed, inside_left, inside_right, FirstOf}
@@ -49,7 +44,7 @@ use Rattle.run_frame.proofs.Expressions.{Opened, ends_values, values_gave}
 use Rattle.run_frame.proofs.Forms.{one_gave, value_gave, Evaluated, evaluated, IsForm, form_read, form_forward, OneGives, one_gives, FormPays, form_backward, After, value_forward, first_stands}
 use Rattle.run_frame.proofs.ListsBack.{Check, by_set, operand_quiet, operand_safe}
 use Rattle.straight_certain.proofs.ItemForms.{KeyIs, key_is}
-use Rattle.straight_certain.proofs.FieldReads.{IsFieldOf, Indexed, NamedGives, named_field_ends, element_ends, property_typed, library_property, field_in, LibraryFacts, library_facts, BaseGives, base_forward, base_gave}
+use Rattle.straight_certain.proofs.FieldReads.{Indexed, NamedGives, named_field_ends, element_ends, property_typed, library_property, field_in, library_facts, BaseGives, base_forward, base_gave}
 
 clash : {P : Type 0} (b : Bool) → b ≡ true → b ≡ false → P
 clash b p q = cc

@@ -1,18 +1,16 @@
 -- Static requires, forward and backward.
-use Rattle.std.proofs.Common.{◌≡◌, ◌≢◌, ℕ, ◌+◌, ◌<◌, ◌≤◌, Bool, true, false, not, ◌||◌, List, [], ◌∷◌, ◌++◌, Option, Some, None, ◌⊎◌, inl, inr, refl, sym, ◌∙◌, ap, subst, arith, codes, slice_get, Contains}
-use Rattle.std.specs.List.{AllByRecursion}
+use Rattle.std.proofs.Common.{◌≡◌, ◌≢◌, ℕ, ◌+◌, ◌<◌, ◌≤◌, Bool, true, false, not, ◌||◌, List, [], ◌++◌, Option, Some, None, ◌⊎◌, inl, inr, refl, sym, ◌∙◌, ap, subst, arith, codes, Contains}
 use Rattle.std.specs.Option.{option_map_or}
-use Rattle.luau_values.specs.Value.{Value, Nil, Builtin, Other}
-use Rattle.luau_values.specs.Stands.{Stands}
+use Rattle.luau_values.specs.Value.{Value, Other}
 use Rattle.luau_tree.specs.declared.position.Span.{Span}
 use Rattle.luau_tree.specs.declared.names.Op.TheVariants.{Call as CallOp}
 use Rattle.luau_tree.specs.declared.names.Place.TheVariants.{Expr as ExprPlace}
-use Rattle.luau_tree.specs.Tree.{Expr, the_expr, Exprs, no_exprs, more_exprs, ExprKind, NameExpr, Call}
+use Rattle.luau_tree.specs.Tree.{Expr, the_expr, Exprs, ExprKind, NameExpr, Call}
 use Rattle.luau_run.specs.ReadModule.{Use, UseGlobal, ReadModule}
-use Rattle.luau_run.specs.ReadFolder.{name_of, local_of, may_mean, is_global_name}
-use Rattle.luau_run.specs.SyntaxNode.{SyntaxNode, AnExpr, of_expr, of_exprs, of_expr_kind, of_block}
-use Rattle.luau_run.specs.Machine.{State, Gave, Part, go_on, ◌>>=◌, step}
-use Rattle.luau_run.specs.Layer.{Frame, Layer, first}
+use Rattle.luau_run.specs.ReadFolder.{local_of, may_mean}
+use Rattle.luau_run.specs.SyntaxNode.{AnExpr, of_expr, of_exprs, of_expr_kind, of_block}
+use Rattle.luau_run.specs.Machine.{State, Gave, go_on, ◌>>=◌, step}
+use Rattle.luau_run.specs.Layer.{Frame, Layer}
 use Rattle.luau_run.specs.Expressions.{reach, values, all_values, call_expr}
 use Rattle.type_arena.specs.Term.{Term}
 use Rattle.type_normal.specs.Holds.{holds}
@@ -23,7 +21,6 @@ use Rattle.subtype_check.specs.Below.{below}
 use Rattle.subtype_check.proofs.Public.{below_includes}
 use Rattle.report_rules.specs.Rules.{TypedBuiltin, Rules, use_of, fixed_use, fixed_builtin, declared, is_quiet_call}
 use Rattle.report_rules.specs.Effects.{effects, any_effects}
-use Rattle.report_rules.specs.Guard.{kind_subject}
 use Rattle.report_rules.specs.TypeMap.{TypeMap}
 use Rattle.report_rules.specs.Forward.{typ, builtin_or, name_type, call_type, types_of_list, first_or_never, after}
 use Rattle.report_rules.specs.Seen.{Seen, is_live, seen_expr, seen_list}
@@ -37,7 +34,7 @@ use Rattle.run_frame.specs.Statements.{stats_of_expr, stats_of_exprs}
 use Rattle.run_frame.specs.Fit.{IsFitCall, IsFitNode, Fit}
 use Rattle.run_frame.proofs.World.{World}
 use Rattle.run_frame.proofs.Counts.{is_reported, reached, one_if}
-use Rattle.run_frame.proofs.Kept.{Doer, MayMore, Kept, nobody, kept_same}
+use Rattle.run_frame.proofs.Kept.{MayMore, Kept, nobody, kept_same}
 use Rattle.run_frame.proofs.Fine.{Fine, fine_same}
 use Rattle.run_frame.proofs.Held.{Runs, runs_kept, has_begun, Held, held_store, Violated}
 use Rattle.run_frame.proofs.Parts.{Ends, Same, ends_so, ends_then, ends_more, ends_gave, ends_step, step_same, gave_then}
@@ -239,7 +236,7 @@ required_forward an l fit fwd w s frame map id span (the_expr at at_span kind) a
         (values an.program l frame (the_expr id span (Call (the_expr at at_span kind) args)) s)
     by_name is =
         let q : (name : List ℕ) × (kind ≡ NameExpr name) = callee_name an w s frame at at_span kind fit r is.0
-            (inside_left frame (of_expr (the_expr at at_span kind)) (of_exprs args) (stats_of_expr (the_expr at at_span kind)) (stats_of_exprs args) (within_call frame id span (the_expr at at_span kind) args inside)) in
+        (inside_left frame (of_expr (the_expr at at_span kind)) (of_exprs args) (stats_of_expr (the_expr at at_span kind)) (stats_of_exprs args) (within_call frame id span (the_expr at at_span kind) args inside)) in
         (subst (λ (k : ExprKind). ForwardFor an l w s frame map id span (the_expr at at_span k) args) (sym q.1)
         (λ i p. named_forward an l fit fwd w s frame map id span at at_span q.0 args other required is f r h i p)) inside placed
 
@@ -393,6 +390,6 @@ required_backward an l fit fwd bwd w s frame map id span (the_expr at at_span ki
     by_name : IsKnown an frame id other (the_expr at at_span kind) → Pays an frame (the_expr id span (Call (the_expr at at_span kind) args)) s rs u
     by_name is =
         let n : (name : List ℕ) × (kind ≡ NameExpr name) = callee_name an w s frame at at_span kind fit r is.0
-            (inside_left frame (of_expr (the_expr at at_span kind)) (of_exprs args) (stats_of_expr (the_expr at at_span kind)) (stats_of_exprs args) (within_call frame id span (the_expr at at_span kind) args inside)) in
+        (inside_left frame (of_expr (the_expr at at_span kind)) (of_exprs args) (stats_of_expr (the_expr at at_span kind)) (stats_of_exprs args) (within_call frame id span (the_expr at at_span kind) args inside)) in
         (subst (λ (k : ExprKind). BackwardFor an l s frame map id span (the_expr at at_span k) args around rs u) (sym n.1)
         (λ i p m e. named_backward an l fit fwd bwd w s frame map id span at at_span n.0 args around other required is f r h i p m rs u e)) inside placed marked q

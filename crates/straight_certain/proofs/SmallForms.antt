@@ -4,7 +4,6 @@ use Rattle.luau_values.specs.Value.{Value}
 use Rattle.luau_tree.specs.Tree.{the_expr, Vararg, the_stat, StatKind, TypeAlias, TypeFunction}
 use Rattle.luau_run.specs.ReadModule.{Use}
 use Rattle.luau_run.specs.SyntaxNode.{of_expr}
-use Rattle.luau_run.specs.Program.{Program}
 use Rattle.luau_run.specs.Machine.{State, Gave, give}
 use Rattle.luau_run.specs.Layer.{Frame, Ending, Falls, Layer, first}
 use Rattle.luau_run.specs.Expressions.{values}

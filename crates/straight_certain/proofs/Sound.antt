@@ -1,49 +1,40 @@
 -- What the proof says of the layers of a straight program, and so of its runs.
-use Rattle.std.proofs.Common.{◌≡◌, ◌<◌, ◌+◌, ℕ, zero, suc, true, false, List, [], length, Option, Some, None, inr, refl, sym, ◌∙◌, ap, subst, arith, codes, slice_get, Contains}
-use Rattle.std.specs.List.{AllByRecursion}
-use Rattle.luau_values.specs.Value.{Value, Nil, Builtin}
+use Rattle.std.proofs.Common.{◌≡◌, ◌+◌, ℕ, zero, suc, true, false, List, length, refl, ◌∙◌, ap, subst, slice_get}
+use Rattle.luau_values.specs.Value.{Value}
 use Rattle.luau_values.specs.Grows.{Grows}
-use Rattle.luau_tree.specs.Tree.{Expr, the_expr, Stat, the_stat, Body}
-use Rattle.luau_run.specs.ReadModule.{ReadModule}
-use Rattle.luau_run.specs.SyntaxNode.{ABody, of_block, of_expr, of_stat}
-use Rattle.luau_run.specs.Machine.{Answer, State, Ran, Gave, Spent, Part, spend, activate}
-use Rattle.luau_run.specs.Layer.{Frame, Ending, Falls, Breaks, Continues, Returns, Layer}
-use Rattle.luau_run.specs.Calls.{block, frame_of, enter_module}
+use Rattle.luau_tree.specs.Tree.{Expr, the_expr, Stat, the_stat}
+use Rattle.luau_run.specs.SyntaxNode.{ABody, of_expr, of_stat}
+use Rattle.luau_run.specs.Machine.{State, Ran, Gave, Part, spend}
+use Rattle.luau_run.specs.Layer.{Frame, Ending}
+use Rattle.luau_run.specs.Calls.{enter_module}
 use Rattle.luau_run.specs.Expressions.{values}
 use Rattle.luau_run.specs.Statements.{stat}
-use Rattle.luau_run.specs.Run.{next, lowest, layer_of, start, run, end_of}
+use Rattle.luau_run.specs.Run.{lowest, layer_of, start, end_of}
 use Rattle.luau_run.specs.Certain.{Certain}
 use Rattle.luau_run.proofs.FreezeFacts.{freeze_call_grows}
-use Rattle.type_normal.specs.Holds.{holds}
-use Rattle.report_rules.specs.Rules.{Rules}
-use Rattle.report_rules.specs.TypeMap.{TypeMap, no_map}
-use Rattle.report_rules.specs.Seen.{seen_expr, seen_stat, seen_block}
-use Rattle.report_rules.specs.Context.{Context, none}
+use Rattle.report_rules.specs.TypeMap.{TypeMap}
+use Rattle.report_rules.specs.Seen.{seen_expr, seen_stat}
+use Rattle.report_rules.specs.Context.{Context}
 use Rattle.report_rules.specs.Checks.{ReportKind}
 use Rattle.report_rules.specs.Statements.{stm}
-use Rattle.report_rules.specs.Findings.{found, found_stat, found_block}
-use Rattle.report_rules.specs.Reports.{findings}
+use Rattle.report_rules.specs.Findings.{found, found_stat}
 use Rattle.run_frame.specs.Analysis.{Analysis}
-use Rattle.run_frame.specs.Statements.{stats_of_block, stats_of, stats_of_expr}
+use Rattle.run_frame.specs.Statements.{stats_of, stats_of_expr}
 use Rattle.run_frame.specs.Fit.{Fit}
-use Rattle.run_frame.proofs.World.{World, no_world, with_module}
-use Rattle.run_frame.proofs.Counts.{reached}
+use Rattle.run_frame.proofs.World.{World, no_world}
 use Rattle.run_frame.proofs.Kept.{nobody}
-use Rattle.run_frame.proofs.Fine.{Sub, Fine}
+use Rattle.run_frame.proofs.Fine.{Fine}
 use Rattle.run_frame.proofs.Held.{Runs, Held}
 use Rattle.run_frame.proofs.Parts.{Ends, ends_so, gave_not_spent}
-use Rattle.run_frame.proofs.Activations.{one_begun, fine_begun, runs_begun, held_begun, ends_activate}
 use Rattle.run_frame.proofs.AtEnd.{fine_start, certain_of}
-use Rattle.run_frame.proofs.Layers.{rules_of, seen_of, expr_of, stat_of, block_of, Inside, Placed, Marked, Gives, Leads, Pays, EndsBad, Trouble, Forward, Backward}
-use Rattle.run_frame.proofs.LooseContexts.{SparesAll, spare_none}
-use Rattle.run_frame.proofs.Passing.{none_violated}
-use Rattle.run_frame.proofs.Blocks.{BlockLeads, block_forward, block_backward}
+use Rattle.run_frame.proofs.Layers.{rules_of, seen_of, expr_of, stat_of, Inside, Placed, Marked, Gives, Leads, Pays, EndsBad, Trouble, Forward, Backward}
+use Rattle.run_frame.proofs.LooseContexts.{SparesAll}
 use Rattle.straight_certain.specs.Straight.{IsStraight}
 use Rattle.straight_certain.proofs.BuiltinActs.{acts_forward}
 use Rattle.straight_certain.proofs.BuiltinCalls.{NoBodies, call_forward}
 use Rattle.straight_certain.proofs.CallForms.{Freezes}
 use Rattle.straight_certain.proofs.Modules.{ModuleGives, entered, require_forward}
-use Rattle.straight_certain.proofs.Closed.{closed, block_closed, values_closed, stat_closed}
+use Rattle.straight_certain.proofs.Closed.{closed, values_closed, stat_closed}
 use Rattle.straight_certain.proofs.StraightForms.{nodes_straight, expr_straight, stat_straight, values_forward, stat_forward, values_pays, stat_pays}
 
 -- ---- what holds of each layer

@@ -1,5 +1,5 @@
 -- Each form of straight code, on the layer above one that does what the proof says.
-use Rattle.std.proofs.Common.{◌≡◌, ℕ, Bool, true, false, not, ◌&&◌, List, [], ◌∷◌, Option, Some, None, is_some, ◌⊎◌, inl, inr, refl, sym, ◌∙◌, ap, subst, slice_get, Contains}
+use Rattle.std.proofs.Common.{◌≡◌, ℕ, Bool, true, false, not, ◌&&◌, List, [], ◌∷◌, Option, Some, None, ◌⊎◌, inl, inr, refl, sym, ◌∙◌, ap, subst, slice_get, Contains}
 use Rattle.std.specs.List.{AllByRecursion, list_all}
 use Rattle.luau_values.specs.Value.{Value}
 use Rattle.luau_tree.specs.Tree.{Expr, the_expr, Exprs, no_exprs, more_exprs, ExprKind, NilExpr, TrueExpr, FalseExpr, NumberExpr, StrExpr, Vararg, FunctionExpr, NameExpr, Index, At, Call, Method, Paren, Unary, Binary, IfElse, TableExpr, Interp, Assert}
@@ -35,7 +35,7 @@ use Rattle.run_frame.proofs.Plain.{plain_forward, plain_backward, plain_nil, pla
 use Rattle.run_frame.proofs.NameForms.{name_forward, name_backward}
 use Rattle.run_frame.proofs.PathForms.{index_path, path_forward, path_backward}
 use Rattle.run_frame.proofs.WrapForms.{paren_forward, paren_backward, assert_forward, assert_backward}
-use Rattle.run_frame.proofs.OperatorForms.{IsBoth, unary_forward, unary_backward, binary_forward, binary_backward}
+use Rattle.run_frame.proofs.OperatorForms.{unary_forward, unary_backward, binary_forward, binary_backward}
 use Rattle.run_frame.proofs.EitherForms.{either_forward, either_backward}
 use Rattle.run_frame.proofs.ChoiceForms.{choice_forward, choice_backward}
 use Rattle.run_frame.proofs.PartForms.{interp_forward, interp_backward}
@@ -53,7 +53,7 @@ use Rattle.straight_certain.proofs.CompoundForms.{IsPlainName, compound_forward,
 use Rattle.straight_certain.proofs.TableForms.{table_forward, table_backward}
 use Rattle.straight_certain.proofs.MethodForms.{method_forward, method_backward}
 use Rattle.straight_certain.proofs.ReadForms.{index_forward, index_backward, at_forward, at_backward}
-use Rattle.straight_certain.proofs.SmallForms.{dots_forward, dots_backward, IsIdle, idle_forward, idle_backward}
+use Rattle.straight_certain.proofs.SmallForms.{dots_forward, dots_backward, idle_forward, idle_backward}
 
 -- ---- what stands in a straight program
 

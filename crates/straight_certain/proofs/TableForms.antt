@@ -1,21 +1,19 @@
 -- Constructors of tables, forward and backward.
 use Rattle.std.proofs.Common.{◌≡◌, ℕ, Bool, true, false, ◌||◌, if◌then◌else◌, List, [], ◌∷◌, ◌++◌, length, ◌⊎◌, inl, inr, refl, sym, ◌∙◌, ap, subst, arith}
-use Rattle.luau_values.specs.Value.{Value, Nil, Truth, Num, Str, Tab, Lit, Builtin, Other}
+use Rattle.luau_values.specs.Value.{Value, Tab}
 use Rattle.luau_values.specs.Heap.{Heap, with_table}
 use Rattle.luau_values.specs.Heap as heaps
-use Rattle.luau_values.specs.Stands.{Stands}
 use Rattle.luau_values.proofs.Public.{table_grows, table_adds_one}
 use Rattle.luau_tree.specs.Tree.{Expr, the_expr, TableExpr, Field, Keyed, Plain, Items, no_items, more_items}
 use Rattle.luau_run.specs.SyntaxNode.{AnExpr, of_block, of_expr, of_items}
-use Rattle.luau_run.specs.Machine.{Store, State, Ran, Gave, Part, ◌>>=◌, give, look, change, make_table}
-use Rattle.luau_run.specs.Answers.{yes_or_fail}
+use Rattle.luau_run.specs.Machine.{State, Gave, ◌>>=◌, give, look, change, make_table}
 use Rattle.luau_run.specs.Layer.{Frame, Layer, first}
 use Rattle.luau_run.specs.Expressions.{value, keyed_field, item_fields, one, values}
 use Rattle.type_arena.specs.Term.{never}
 use Rattle.type_normal.specs.Holds.{holds}
 use Rattle.type_normal.specs.Kinds.{table_type, row_type}
 use Rattle.type_normal.proofs.Public.{new_table_holds}
-use Rattle.report_rules.specs.Effects.{effects, effects_of_item, effects_of_items}
+use Rattle.report_rules.specs.Effects.{effects, effects_of_items}
 use Rattle.report_rules.specs.TypeMap.{TypeMap}
 use Rattle.report_rules.specs.Forward.{after, after_part, has_other_key, fields_of_items}
 use Rattle.report_rules.specs.Seen.{seen_expr, seen_items}
@@ -31,7 +29,7 @@ use Rattle.run_frame.proofs.World.{World}
 use Rattle.run_frame.proofs.Counts.{reached}
 use Rattle.run_frame.proofs.Kept.{Doer, Kept, kept_more, kept_trans}
 use Rattle.run_frame.proofs.Fine.{Fine}
-use Rattle.run_frame.proofs.Held.{Runs, runs_kept, Held, held_same, held_store, Violated}
+use Rattle.run_frame.proofs.Held.{Runs, runs_kept, Held, held_store, Violated}
 use Rattle.run_frame.proofs.Parts.{Ends, Same, ends_then, ends_so, ends_give, ends_gave, gave_then, gave_same}
 use Rattle.run_frame.proofs.Tables.{with_heap, IsMade, ends_table}
 use Rattle.run_frame.proofs.Layers.{rules_of, seen_of, part_of, expr_of, Inside, Placed, Marked, Gives, Pays, Forward, Backward}

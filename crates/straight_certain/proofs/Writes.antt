@@ -1,26 +1,25 @@
 -- Writes to locals and globals, from the left: the map after them matches; and which locals hold what was written.
 use Rattle.std.proofs.Common.{◌≡◌, ℕ, zero, suc, ◌<◌, ◌==◌, Bool, true, false, not, ◌&&◌, ◌||◌, if◌then◌else◌, List, [], ◌∷◌, length, Option, Some, None, ◌⊎◌, inl, inr, refl, sym, ◌∙◌, ap, subst, arith, slice_get, slice_set, drop}
-use Rattle.std.specs.List.{AllByRecursion, filter_map}
+use Rattle.std.specs.List.{AllByRecursion}
 use Rattle.std.proofs.lemmas.Bool.{eqb-true}
 use Rattle.std.proofs.lemmas.Option.{slice_get_within}
 use Rattle.luau_values.specs.Value.{Value, Builtin}
 use Rattle.luau_values.specs.Heap.{Heap}
 use Rattle.luau_values.specs.Stands.{Stands}
-use Rattle.luau_run.specs.ReadFolder.{is_among, are_distinct}
-use Rattle.luau_run.specs.Machine.{Binding, State, Ran, Gave, go_on, ◌>>=◌, give, spend, look, change}
+use Rattle.luau_run.specs.ReadFolder.{is_among}
+use Rattle.luau_run.specs.Machine.{Binding, State, Gave, go_on, ◌>>=◌, give, spend, look, change}
 use Rattle.luau_run.specs.Layer.{Frame, first}
 use Rattle.luau_run.specs.Expressions.{cell_of, cell_or_spend}
 use Rattle.luau_run.specs.Statements.{Target, LocalTarget, GlobalTarget, write_all}
-use Rattle.type_arena.specs.Term.{Term, never}
+use Rattle.type_arena.specs.Term.{Term}
 use Rattle.type_normal.specs.Holds.{holds}
 use Rattle.type_normal.specs.Rows.{is_empty}
 use Rattle.type_normal.specs.Cut.{cut_up}
-use Rattle.type_normal.proofs.Public.{empty_holds, never_none, unknown_all, cut_up_above}
+use Rattle.type_normal.proofs.Public.{empty_holds, unknown_all, cut_up_above}
 use Rattle.report_rules.specs.Rules.{Rules, loose}
 use Rattle.report_rules.specs.Effects.{of_name}
 use Rattle.report_rules.specs.Effects as rules_say
-use Rattle.report_rules.specs.TypeMap.{TypeMap, set, not_given, first_type, stored, stored_all}
-use Rattle.report_rules.specs.Context.{Context}
+use Rattle.report_rules.specs.TypeMap.{TypeMap, set, first_type, stored, stored_all}
 use Rattle.run_frame.specs.Analysis.{Analysis, is_caught, is_loose}
 use Rattle.run_frame.proofs.World.{Owner, World, set_get, set_elsewhere}
 use Rattle.run_frame.proofs.Kept.{Doer, Kept}

@@ -1,5 +1,5 @@
 -- Straight code: no function bodies, no writes to fields and no loops.
-use Rattle.std.specs.Prelude.{◌≡◌, ℕ, Bool, true, false, not, ◌&&◌, List, Option, Some}
+use Rattle.std.specs.Prelude.{◌≡◌, Bool, true, false, not, ◌&&◌, Option, Some}
 use Rattle.std.specs.List.{list_all}
 use Rattle.luau_tree.specs.Tree.{Expr, the_expr, Exprs, no_exprs, more_exprs, ExprKind, FunctionExpr, NameExpr, Stat, the_stat, StatKind, Assign, Compound, CallStat, Do, If, Local, TypeAlias, TypeFunction, Return}
 use Rattle.luau_run.specs.ReadModule.{Use, UseBuiltin, ReadModule}
