@@ -1,0 +1,134 @@
+-- What the proof says of the layers of a straight program, and so of its runs.
+use Rattle.std.proofs.Common.{◌≡◌, ◌+◌, ℕ, zero, suc, true, false, List, length, refl, ◌∙◌, ap, subst, slice_get}
+use Rattle.luau_values.specs.Value.{Value}
+use Rattle.luau_values.specs.Grows.{Grows}
+use Rattle.luau_tree.specs.Tree.{Expr, the_expr, Stat, the_stat}
+use Rattle.luau_run.specs.SyntaxNode.{ABody, of_expr, of_stat}
+use Rattle.luau_run.specs.Machine.{State, Ran, Gave, Part, spend}
+use Rattle.luau_run.specs.Layer.{Frame, Ending}
+use Rattle.luau_run.specs.Calls.{enter_module}
+use Rattle.luau_run.specs.Expressions.{values}
+use Rattle.luau_run.specs.Statements.{stat}
+use Rattle.luau_run.specs.Run.{lowest, layer_of, start, end_of}
+use Rattle.luau_run.specs.Certain.{Certain}
+use Rattle.luau_run.proofs.FreezeFacts.{freeze_call_grows}
+use Rattle.report_rules.specs.TypeMap.{TypeMap}
+use Rattle.report_rules.specs.Seen.{seen_expr, seen_stat}
+use Rattle.report_rules.specs.Context.{Context}
+use Rattle.report_rules.specs.Checks.{ReportKind}
+use Rattle.report_rules.specs.Statements.{stm}
+use Rattle.report_rules.specs.Findings.{found, found_stat}
+use Rattle.run_frame.specs.Analysis.{Analysis}
+use Rattle.run_frame.specs.Statements.{stats_of, stats_of_expr}
+use Rattle.run_frame.specs.Fit.{Fit}
+use Rattle.run_frame.proofs.World.{World, no_world}
+use Rattle.run_frame.proofs.Kept.{nobody}
+use Rattle.run_frame.proofs.Fine.{Fine}
+use Rattle.run_frame.proofs.Held.{Runs, Held}
+use Rattle.run_frame.proofs.Parts.{Ends, ends_so, gave_not_spent}
+use Rattle.run_frame.proofs.AtEnd.{fine_start, certain_of}
+use Rattle.run_frame.proofs.Layers.{rules_of, seen_of, expr_of, stat_of, Inside, Placed, Marked, Gives, Leads, Pays, EndsBad, Trouble, Forward, Backward}
+use Rattle.run_frame.proofs.LooseContexts.{SparesAll}
+use Rattle.straight_certain.specs.Straight.{IsStraight}
+use Rattle.straight_certain.proofs.BuiltinActs.{acts_forward}
+use Rattle.straight_certain.proofs.BuiltinCalls.{NoBodies, call_forward}
+use Rattle.straight_certain.proofs.CallForms.{Freezes}
+use Rattle.straight_certain.proofs.Modules.{ModuleGives, entered, require_forward}
+use Rattle.straight_certain.proofs.Closed.{closed, values_closed, stat_closed}
+use Rattle.straight_certain.proofs.StraightForms.{nodes_straight, expr_straight, stat_straight, values_forward, stat_forward, values_pays, stat_pays}
+
+-- ---- what holds of each layer
+
+-- no function body stands in a straight program
+no_bodies : (an : Analysis) → IsStraight an.program → NoBodies an
+no_bodies an straight m reading e code c = off (nodes_straight an.program m reading (ABody code) straight e c)
+  where
+    off : false ≡ true → ⊥
+    off k = cc
+
+freezes_at : (an : Analysis) (depth : ℕ) → Freezes (closed (layer_of an.program depth))
+freezes_at an depth args vs s t e = subst (λ (r : Ran (List Value)). Grows s.store.heap (end_of r).store.heap) e (freeze_call_grows an.program depth args s)
+
+lowest_forward : (an : Analysis) → Forward an (closed lowest)
+unfolding spend
+lowest_forward an = record {
+  values = λ w s frame map e f r h inside placed. f.stays;
+  stat = λ w s frame map st f r h inside placed. f.stays;
+  turns = λ w s frame map loop f r h steady inside placed there. f.stays;
+  call = λ w s callee args f there all. f.stays;
+  require = λ w s at other f q. f.stays;
+  acts = λ w s freedom aim f. f.stays;
+}
+
+lowest_backward : (an : Analysis) → Backward an (closed lowest)
+unfolding spend
+lowest_backward an = record {
+  values = λ w s frame map e around f r h inside placed marked vs t q. absurd (gave_not_spent s t vs q);
+  stat = λ w s frame map st behind breaks_to continues_to f r h inside placed marked spares ending t q y. absurd (gave_not_spent s t ending q);
+  turns = λ w s frame map loop behind kept f r h steady steady_context below inside placed marked spares spares_kept there ending t q y. absurd (gave_not_spent s t ending q);
+}
+
+module _ (an : Analysis) (fit : Fit an) (straight : IsStraight an.program) (depth : ℕ) (fwd : Forward an (closed (layer_of an.program depth))) (bwd : Backward an (closed (layer_of an.program depth))) where
+  next_forward : Forward an (closed (layer_of an.program (suc depth)))
+  unfolding spend
+  next_forward = record {
+    values = λ w s frame map e f r h inside placed. by_expr w s frame map e f r h inside placed;
+    stat = λ w s frame map st f r h inside placed. by_stat w s frame map st f r h inside placed;
+    turns = λ w s frame map loop f r h steady inside placed there. f.stays;
+    call = λ w s callee args f there all. call_forward an depth (no_bodies an straight) fwd.acts w s callee args f all;
+    require = λ w s at other f q. require_forward an fit (layer_of an.program depth) fwd bwd w s other f;
+    acts = λ w s freedom aim f. acts_forward an (layer_of an.program depth) fwd.call fwd.acts w s freedom aim f;
+  }
+    where
+      by_expr : (w : World) (s : State) (frame : Frame) (map : TypeMap) (e : Expr) → Fine an w s → Runs an w s frame → Held an frame map s → Inside frame (of_expr e) (stats_of_expr e)
+          → Placed an frame (seen_expr (rules_of an frame) map e) → Ends an (expr_of an frame e) w s (Gives an frame map e) (values an.program (layer_of an.program depth) frame e s)
+      by_expr w s frame map (the_expr id span kind) f r h inside placed = subst (λ (p : Part (List Value)). Ends an (expr_of an frame (the_expr id span kind)) w s (Gives an frame map (the_expr id span kind)) (p s))
+          (values_closed an.program (layer_of an.program depth) frame id span kind (expr_straight an w s frame id span kind straight r inside))
+          (values_forward an (closed (layer_of an.program depth)) fit straight fwd (freezes_at an depth) w s frame map id span kind f r h inside placed)
+
+      by_stat : (w : World) (s : State) (frame : Frame) (map : TypeMap) (st : Stat) → Fine an w s → Runs an w s frame → Held an frame map s → Inside frame (of_stat st) (stats_of st)
+          → Placed an frame (seen_stat (rules_of an frame) map st) → Ends an (stat_of an frame st) w s (Leads an frame map st) (stat an.program (layer_of an.program depth) frame st s)
+      by_stat w s frame map (the_stat span kind) f r h inside placed = subst (λ (p : Part Ending). Ends an (stat_of an frame (the_stat span kind)) w s (Leads an frame map (the_stat span kind)) (p s))
+          (stat_closed an.program (layer_of an.program depth) frame span kind (stat_straight an w s frame span kind straight r inside))
+          (stat_forward an (closed (layer_of an.program depth)) fit straight fwd (freezes_at an depth) w s frame map span kind f r h inside placed)
+
+  next_backward : Backward an (closed (layer_of an.program (suc depth)))
+  unfolding spend
+  next_backward = record {
+    values = λ w s frame map e around f r h inside placed marked vs t q. by_expr w s frame map e around f r h inside placed marked vs t q;
+    stat = λ w s frame map st behind breaks_to continues_to f r h inside placed marked spares ending t q y.
+        by_stat w s frame map st behind breaks_to continues_to f r h inside placed marked spares ending t q y;
+    turns = λ w s frame map loop behind kept f r h steady steady_context below inside placed marked spares spares_kept there ending t q y. absurd (gave_not_spent s t ending q);
+  }
+    where
+      by_expr : (w : World) (s : State) (frame : Frame) (map : TypeMap) (e : Expr) (around : List ReportKind) → Fine an w s → Runs an w s frame → Held an frame map s
+          → Inside frame (of_expr e) (stats_of_expr e) → Placed an frame (seen_expr (rules_of an frame) map e) → Marked an frame (found (rules_of an frame) (seen_of an frame) around e)
+          → (vs : List Value) (t : State) → values an.program (layer_of an.program depth) frame e s ≡ Gave vs t → Pays an frame e s vs t
+      by_expr w s frame map (the_expr id span kind) around f r h inside placed marked vs t q =
+          values_pays an (closed (layer_of an.program depth)) fit straight fwd bwd w s frame map id span kind around f r h inside placed marked vs t
+          (ap (λ (p : Part (List Value)). p s) (values_closed an.program (layer_of an.program depth) frame id span kind (expr_straight an w s frame id span kind straight r inside)) ∙ q)
+
+      by_stat : (w : World) (s : State) (frame : Frame) (map : TypeMap) (st : Stat) (behind breaks_to continues_to : Context) → Fine an w s → Runs an w s frame → Held an frame map s
+          → Inside frame (of_stat st) (stats_of st) → Placed an frame (seen_stat (rules_of an frame) map st)
+          → Marked an frame (found_stat (rules_of an frame) (seen_of an frame) st behind breaks_to continues_to) → SparesAll (rules_of an frame) behind breaks_to continues_to
+          → (ending : Ending) (t : State) → stat an.program (layer_of an.program depth) frame st s ≡ Gave ending t
+          → Trouble an frame (stm (rules_of an frame) (seen_of an frame) st behind breaks_to continues_to) s t → EndsBad an frame behind breaks_to continues_to ending t
+      by_stat w s frame map (the_stat span kind) behind breaks_to continues_to f r h inside placed marked spares ending t q y =
+          stat_pays an (closed (layer_of an.program depth)) fit straight fwd bwd w s frame map span kind behind breaks_to continues_to f r h inside placed marked spares ending t
+          (ap (λ (p : Part Ending). p s) (stat_closed an.program (layer_of an.program depth) frame span kind (stat_straight an w s frame span kind straight r inside)) ∙ q) y
+
+-- each layer does what the proof says
+pub sound : (an : Analysis) → Fit an → IsStraight an.program → (depth : ℕ) → Forward an (closed (layer_of an.program depth)) × Backward an (closed (layer_of an.program depth))
+sound an fit straight zero = (lowest_forward an, lowest_backward an)
+sound an fit straight (suc depth) =
+    let p : Forward an (closed (layer_of an.program depth)) × Backward an (closed (layer_of an.program depth)) = sound an fit straight depth in
+    (next_forward an fit straight depth p.0 p.1, next_backward an fit straight depth p.0 p.1)
+
+-- ---- a run
+
+pub straight_certain : (an : Analysis) → IsStraight an.program → Fit an → Certain an.program an.reports
+straight_certain an straight fit = certain_of an (λ ending t. Unit {0})
+    (λ entry steps tape. ends_so an (nobody false) no_world (start an.program steps tape) (ModuleGives an entry) (λ ending t. Unit {0})
+    (enter_module (layer_of an.program (suc (steps + length tape))) entry (slice_get an.program.modules entry) (start an.program steps tape)) (λ ending t v e g k p. tt)
+    (entered an fit (layer_of an.program (suc (steps + length tape))) (sound an fit straight (suc (steps + length tape))).0 (sound an fit straight (suc (steps + length tape))).1
+    entry (slice_get an.program.modules entry) refl no_world (start an.program steps tape) (fine_start an steps tape)))
