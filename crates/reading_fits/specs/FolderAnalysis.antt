@@ -33,7 +33,8 @@ rules_in table modules = linked (map (rules_alone table) modules)
 -- the rules at a position; past the last those of an empty module
 abbrev pub rules_at : (table : List (List ℕ × Signature)) → List Rules → ℕ → Rules
 rules_at table rules m =
-    option_map_or (λ found. found) (slice_get rules m) (rules_alone table (record { home = 0; block = no_stats; leads = λ way. None }))
+    option_map_or (λ found. found) (slice_get rules m)
+    (rules_alone table (record { home = 0; block = no_stats; leads = λ way. None }))
 
 -- the analysis of a folder over a table of builtins: what is reported are the places of its modules' reports
 abbrev pub analysis_of : (table : List (List ℕ × Signature)) → List TreeModule → Analysis

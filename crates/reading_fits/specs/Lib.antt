@@ -1,2 +1,3 @@
 pub mod OfFolder
 pub mod FolderAnalysis
+pub mod Examples

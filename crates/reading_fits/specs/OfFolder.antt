@@ -18,7 +18,8 @@ abbrev pub paths_of : List (List ℕ × Signature) → List (List ℕ)
 paths_of table = map (λ entry. entry.0) table
 
 -- the rules of a module over the paths of a table
-abbrev pub rules_over : (table : List (List ℕ × Signature)) → (home : ℕ) → Block → (leads : List ℕ → Option ℕ) → (import : ℕ → Term) → Rules
+abbrev pub rules_over : (table : List (List ℕ × Signature)) → (home : ℕ) → Block
+    → (leads : List ℕ → Option ℕ) → (import : ℕ → Term) → Rules
 rules_over table home block leads import = rules_of (paths_of table) home block leads table import
 
 -- what each static require of a module gives is what the module that it means gives
@@ -39,5 +40,7 @@ pub record HasOwnRules (table : List (List ℕ × Signature)) (an : Analysis) (m
 pub record IsOfFolder (table : List (List ℕ × Signature)) (an : Analysis) : Type 0 where
   pub builtins : an.program.builtins ≡ builtins_of table
   pub folder : IsFolderOfTrees an.program
-  pub modules : (m : ℕ) (reading : ReadModule) → slice_get an.program.modules m ≡ Some reading → HasOwnRules table an m reading
-  pub found : (m : ℕ) (p : Place) → Contains an.reports (m, p) ↔ ((reading : ReadModule) × (slice_get an.program.modules m ≡ Some reading) × IsFound an m p)
+  pub modules : (m : ℕ) (reading : ReadModule)
+      → slice_get an.program.modules m ≡ Some reading → HasOwnRules table an m reading
+  pub found : (m : ℕ) (p : Place) → Contains an.reports (m, p)
+      ↔ ((reading : ReadModule) × (slice_get an.program.modules m ≡ Some reading) × IsFound an m p)
