@@ -49,14 +49,14 @@ Timely Lined at e = Unit {0}
 Timely Opposed at e = IsLate (at + 1) e → ⊥
 Timely Loose at e = Unit {0}
 
--- a fault stands at one of these tokens, or at the end
-abbrev pub StandsAmong : List Tok → ParseError → Type 0
-StandsAmong all (Unexpected at) = Has at all
-StandsAmong all (UnexpectedEnd at) = Unit {0}
-StandsAmong all (AmbiguousCall at) = Has at all
-StandsAmong all (Nesting at) = Has at all
-StandsAmong all (Lex e) = ⊥
-StandsAmong all NoMemory = ⊥
+-- a fault stands at one of these tokens, or at the end of a text of this length
+abbrev pub StandsAmong : ℕ → List Tok → ParseError → Type 0
+StandsAmong len all (Unexpected at) = Has at all
+StandsAmong len all (UnexpectedEnd at) = at ≡ len
+StandsAmong len all (AmbiguousCall at) = Has at all
+StandsAmong len all (Nesting at) = Has at all
+StandsAmong len all (Lex e) = ⊥
+StandsAmong len all NoMemory = ⊥
 
 -- it is ambiguous at the token
 abbrev pub IsAmbiguousAt : {A : Type 0} → ℕ → Outcome A → Type 0
@@ -154,7 +154,7 @@ module _ (f : Pair) where
     pub awaits : Awaits f.kind f.at p.ahead
 
   abbrev pub Fits : ParseError → Type 0
-  Fits e = Timely f.kind f.at e × StandsAmong f.all e
+  Fits e = Timely f.kind f.at e × StandsAmong f.low.len f.all e
 
   abbrev pub SameEnd : {A : Type 0} → ℕ → ℕ → Outcome A → Outcome A → Type 0
   SameEnd lo hi (Ok x) (Ok y) = (x ≡ y) × Stands lo hi x.1

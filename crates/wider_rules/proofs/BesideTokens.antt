@@ -124,7 +124,7 @@ module _ (f : Pair) where
   refused : (A : Type 0) (ts : List Tok) (l m lo hi end : ℕ) → Stands f lo hi (record { ahead = ts; last = l; level = m })
       → Rel f {A = A} lo end (Err (refusal f.low (record { ahead = ts; last = l; level = m }))) (Err (refusal f.high (record { ahead = ts; last = l; level = m })))
   unfolding refusal
-  refused A [] l m lo hi end i = inl (ap (λ n. UnexpectedEnd n) (sym f.len), tt, (timely_end f.kind f.at f.low.len i.awaits, tt))
+  refused A [] l m lo hi end i = inl (ap (λ n. UnexpectedEnd n) (sym f.len), tt, (timely_end f.kind f.at f.low.len i.awaits, refl))
   refused A (t ∷ ts) l m lo hi end i = inl (refl, tt, (timely_token f.kind f.at t ts i.ordered i.awaits, i.among.0))
 
   pub refuses : {A : Type 0} {lo hi end : ℕ} → Beside f lo hi end (refuse f.low {A = A}) (refuse f.high {A = A})
@@ -158,7 +158,7 @@ module _ (f : Pair) where
   next_any : (ts : List Tok) (l m lo hi : ℕ) → m ≤ f.low.limit + 2 → Stands f lo hi (record { ahead = ts; last = l; level = m })
       → Rel f lo f.low.limit (next f.low (record { ahead = ts; last = l; level = m })) (next f.high (record { ahead = ts; last = l; level = m }))
   unfolding next
-  next_any [] l m lo hi c i = inl (ap (λ n. UnexpectedEnd n) (sym f.len), tt, (timely_end f.kind f.at f.low.len i.awaits, tt))
+  next_any [] l m lo hi c i = inl (ap (λ n. UnexpectedEnd n) (sym f.len), tt, (timely_end f.kind f.at f.low.len i.awaits, refl))
   next_any (t ∷ ts) l m lo hi c i = token_case t ts l m lo hi c i (f.low.rules.may_stand t m) refl
 
   deep_enough : (hi m : ℕ) → hi ≤ top f → m ≤ hi → m ≤ f.low.limit + 2

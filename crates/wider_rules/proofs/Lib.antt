@@ -8,3 +8,4 @@ pub mod BesideStatements
 pub mod Starts
 pub mod BesideModules
 pub mod Runs
+pub mod Settled

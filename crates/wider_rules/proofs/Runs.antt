@@ -99,7 +99,7 @@ module _ (f : Pair) (A : Type 0) (lo hi : ℕ) (quiet : MayStop f.kind → ⊥) 
   plain_same e (Ok y) k (inr (inr h)) = absurd h
   plain_same e (Err d) k (inr (inr h)) = absurd (quiet h.0)
 
-  pub fault_among : (e : ParseError) (r : Outcome A) → Rel f lo hi (Err e) r → StandsAmong f.all e
+  pub fault_among : (e : ParseError) (r : Outcome A) → Rel f lo hi (Err e) r → StandsAmong f.low.len f.all e
   fault_among e (Ok y) (inl h) = absurd h
   fault_among e (Err d) (inl h) = h.2.1
   fault_among e r (inr (inl h)) = h.1.1
@@ -162,7 +162,7 @@ module _ (c d : Test) (calls : (l : ℕ) (t : Tok) → c l t ≡ true → d l t 
   pub still_refused : (e : ParseError) → Plain e → run c len deep ts ≡ Err e → run d len more ts ≡ Err e
   still_refused e k h = plain_same widest Block 0 deep (λ z. z) e (run d len more ts) k (subst (λ z. Rel widest 0 deep z (run d len more ts)) h widest_rel)
 
-  pub stands_among : (e : ParseError) → run c len deep ts ≡ Err e → StandsAmong ts e
+  pub stands_among : (e : ParseError) → run c len deep ts ≡ Err e → StandsAmong len ts e
   stands_among e h = fault_among widest Block 0 deep (λ z. z) e (run d len more ts) (subst (λ z. Rel widest 0 deep z (run d len more ts)) h widest_rel)
 
   -- a tree by some rules is one by wider ones

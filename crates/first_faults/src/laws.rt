@@ -1,0 +1,29 @@
+//! What follows for every text and every list of tokens in order.
+ghost use Rattle.std.specs.Prelude.{◌≡◌, ℕ, List, [], length, Err};
+ghost use Rattle.luau_lex.specs.Tokens.{Tok};
+ghost use Rattle.luau_grammar.specs.declared.error.ParseError.TheVariants.{Unexpected, UnexpectedEnd, AmbiguousCall, Nesting};
+ghost use Rattle.luau_grammar.specs.Modules.{before};
+ghost use Rattle.luau_grammar.specs.Reading.{strictly};
+ghost use Rattle.luau_grammar.specs.ReadModules.{module_with, max_depth};
+ghost use Rattle.wider_rules.specs.Order.{Ordered};
+ghost use Rattle.fault_places.specs.Faults.{IsFront, IsAmbiguous, HasTree};
+ghost use Rattle.first_faults.specs.Told.{AreFronts, StandsAt};
+
+/// Before the fault that the parser of a text tells, each token makes a front with those before it,
+/// and none begins arguments on a later line. At an unexpected token the tokens stop being a front; at an
+/// ambiguous call one begins arguments on a later line; one that stands too deep does neither. Where
+/// the end is unexpected, the fault stands at the text's length, and the tokens have no tree.
+pub fn what_is_told_stands_at_its_least_place()
+    ensures unexpected { (text : List ℕ) (ts : List Tok) (at : ℕ) → Ordered ts →
+        module_with (strictly text) max_depth (before ts) ≡ Err (Unexpected at) →
+        StandsAt text ts at (λ front t. IsFront front t → ⊥) }
+    ensures ambiguous { (text : List ℕ) (ts : List Tok) (at : ℕ) → Ordered ts →
+        module_with (strictly text) max_depth (before ts) ≡ Err (AmbiguousCall at) →
+        StandsAt text ts at (λ front t. IsAmbiguous text front t) }
+    ensures too_deep { (text : List ℕ) (ts : List Tok) (at : ℕ) → Ordered ts →
+        module_with (strictly text) max_depth (before ts) ≡ Err (Nesting at) →
+        StandsAt text ts at (λ front t. IsFront front t × (IsAmbiguous text front t → ⊥)) }
+    ensures at_the_end { (text : List ℕ) (ts : List Tok) (at : ℕ) → Ordered ts →
+        module_with (strictly text) max_depth (before ts) ≡ Err (UnexpectedEnd at) →
+        (at ≡ length text) × AreFronts text [] ts × (HasTree ts → ⊥) }
+{}
