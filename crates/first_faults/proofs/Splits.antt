@@ -6,7 +6,7 @@ use Rattle.fault_places.specs.Faults.{BeginBefore}
 use Rattle.fault_places.proofs.Closing.{BeforeOf}
 use Rattle.wider_rules.specs.Order.{Has, Ordered}
 
-has_behind : (at b : ℕ) (ts : List Tok) → Has at ts → BeginFrom b ts → b ≤ at
+pub has_behind : (at b : ℕ) (ts : List Tok) → Has at ts → BeginFrom b ts → b ≤ at
 has_behind at b [] h k = absurd h
 has_behind at b (t ∷ ts) (inl e) k = omega arith
 has_behind at b (t ∷ ts) (inr h) k = has_behind at b ts h k.1

@@ -23,7 +23,7 @@ use Rattle.first_faults.proofs.Completions.{Goes, goes}
 
 -- ---- which tokens may begin arguments
 
-abbrev one_line : List ℕ → Test
+abbrev pub one_line : List ℕ → Test
 one_line text l t = on_one_line text l t.span.start
 
 -- on one line at one token, and anywhere else
@@ -46,7 +46,7 @@ lined_same text at l t e =
 
 -- ---- what a fault says of a token
 
-abbrev Passes : ℕ → ParseError → Type 0
+abbrev pub Passes : ℕ → ParseError → Type 0
 Passes n (Unexpected k) = n + 1 ≤ k
 Passes n (UnexpectedEnd k) = Unit {0}
 Passes n (AmbiguousCall k) = n ≤ k
@@ -54,7 +54,7 @@ Passes n (Nesting k) = n ≤ k
 Passes n (Lex e) = ⊥
 Passes n NoMemory = ⊥
 
-abbrev Overtakes : ℕ → ParseError → Type 0
+abbrev pub Overtakes : ℕ → ParseError → Type 0
 Overtakes n (Unexpected k) = n + 1 ≤ k
 Overtakes n (UnexpectedEnd k) = Unit {0}
 Overtakes n (AmbiguousCall k) = n + 1 ≤ k
@@ -62,7 +62,7 @@ Overtakes n (Nesting k) = n + 1 ≤ k
 Overtakes n (Lex e) = ⊥
 Overtakes n NoMemory = ⊥
 
-passes_over : (n : ℕ) (e : ParseError) → Overtakes n e → Passes n e
+pub passes_over : (n : ℕ) (e : ParseError) → Overtakes n e → Passes n e
 passes_over n (Unexpected k) h = h
 passes_over n (UnexpectedEnd k) h = tt
 passes_over n (AmbiguousCall k) h = omega arith
@@ -74,7 +74,7 @@ module _ (text : List ℕ) where
   abbrev len : ℕ
   len = length text
 
-  abbrev told : List Tok → Outcome Block
+  abbrev pub told : List Tok → Outcome Block
   told ts = run (one_line text) len max_level ts
 
   -- ---- calls on one line at a token alone
@@ -149,7 +149,7 @@ module _ (text : List ℕ) where
     wide_far (Lex d) e h = absurd h
     wide_far NoMemory e h = absurd h
 
-    is_front : (e : ParseError) → told all ≡ Err e → Passes t.span.start e → IsFront front t
+    pub is_front : (e : ParseError) → told all ≡ Err e → Passes t.span.start e → IsFront front t
     is_front e h k =
         goes anywhere len t (λ _ _ _. refl) front behind order (settle_from anywhere len (t.span.start + 1) (λ _ _ _. refl) all order more (wide_far e h k))
 
@@ -172,11 +172,16 @@ module _ (text : List ℕ) where
     lined_far (Lex d) e h = absurd h
     lined_far NoMemory e h = absurd h
 
-    not_ambiguous : Far (t.span.start + 1) (run (lined text t.span.start) len more all) → IsAmbiguous text front t → ⊥
+    pub not_ambiguous : Far (t.span.start + 1) (run (lined text t.span.start) len more all) → IsAmbiguous text front t → ⊥
     not_ambiguous h k =
         let g : Goes (lined text t.span.start) len t free_behind front =
         goes (lined text t.span.start) len t free_behind front behind order (settle_from (lined text t.span.start) len (t.span.start + 1) free_behind all order more h) in
         k.1 g.0 g.1
+
+    -- a token that stands too deep
+    pub deep_token : told all ≡ Err (Nesting t.span.start) → IsFront front t × (IsAmbiguous text front t → ⊥)
+    deep_token g =
+        (is_front (Nesting t.span.start) g (let x : t.span.start ≤ t.span.start = omega arith in x), not_ambiguous (lined_deep t.span.start more enough all order g))
 
     no_front : told all ≡ Err (Unexpected t.span.start) → IsFront front t → ⊥
     no_front e k =
@@ -195,12 +200,12 @@ module _ (text : List ℕ) where
 
   -- ---- all tokens before a fault
 
-  abbrev OvertakesAll : List Tok → ParseError → Type 0
+  abbrev pub OvertakesAll : List Tok → ParseError → Type 0
   OvertakesAll [] e = Unit {0}
   OvertakesAll (t ∷ ts) e = Overtakes t.span.start e × OvertakesAll ts e
 
   module _ (ts : List Tok) (order : Ordered ts) (e : ParseError) (fault : told ts ≡ Err e) where
-    one_of : (front : List Tok) (t : Tok) (behind : List Tok) → ts ≡ front ++ t ∷ behind → Overtakes t.span.start e → IsFront front t × (IsAmbiguous text front t → ⊥)
+    pub one_of : (front : List Tok) (t : Tok) (behind : List Tok) → ts ≡ front ++ t ∷ behind → Overtakes t.span.start e → IsFront front t × (IsAmbiguous text front t → ⊥)
     one_of front t behind q h =
         let o = subst Ordered q order in
         let g = subst (λ z. told z ≡ Err e) q fault in
@@ -216,11 +221,11 @@ module _ (text : List ℕ) where
   over_unexpected at [] h = tt
   over_unexpected at (u ∷ us) h = ((let x : u.span.start + 1 ≤ at = omega arith in x), over_unexpected at us h.1)
 
-  over_call : (at : ℕ) (us : List Tok) → BeginBefore at us → OvertakesAll us (AmbiguousCall at)
+  pub over_call : (at : ℕ) (us : List Tok) → BeginBefore at us → OvertakesAll us (AmbiguousCall at)
   over_call at [] h = tt
   over_call at (u ∷ us) h = ((let x : u.span.start + 1 ≤ at = omega arith in x), over_call at us h.1)
 
-  over_deep : (at : ℕ) (us : List Tok) → BeginBefore at us → OvertakesAll us (Nesting at)
+  pub over_deep : (at : ℕ) (us : List Tok) → BeginBefore at us → OvertakesAll us (Nesting at)
   over_deep at [] h = tt
   over_deep at (u ∷ us) h = ((let x : u.span.start + 1 ≤ at = omega arith in x), over_deep at us h.1)
 
