@@ -9,32 +9,54 @@ use Rattle.luau_grammar.specs.Reading.{Setting, Parser, Outcome, ◌>>=◌, and_
 use Rattle.luau_grammar.proofs.Agreement.{Bounded}
 use Rattle.grammar_faults.specs.Fronts.{BeginFrom}
 use Rattle.grammar_faults.proofs.Local.{IsLate, Far, far_then, far_if}
-use Rattle.wider_rules.specs.Order.{Ordered}
+use Rattle.wider_rules.specs.Order.{Has}
 
--- How the rules of two settings may differ at one token. Elsewhere the second setting takes each token.
+-- How the rules of two settings may differ at one token. Elsewhere the second setting takes what the first takes.
 pub data Kind : Type 0 where
-  -- it takes this token too
+  -- at no token
+  Wide : Kind
+  -- there it takes the token
   Free : Kind
-  -- there it refuses the calls that the first refuses
+  -- there it refuses the calls that the first refuses, and takes the token else
   Lined : Kind
   -- there it refuses the levels that the first takes, and takes those that the first refuses
   Opposed : Kind
+  -- there it may refuse any level
+  Loose : Kind
 
--- a token at an offset is among these
-abbrev pub Has : ℕ → List Tok → Type 0
-Has at [] = ⊥
-Has at (t ∷ ts) = (t.span.start ≡ at) ⊎ Has at ts
+-- A token at an offset comes behind those that begin before it and before those that begin behind it.
+abbrev pub Tidy : ℕ → List Tok → Type 0
+Tidy at [] = Unit {0}
+Tidy at (t ∷ ts) = (t.span.start ≡ at → BeginFrom (at + 1) ts) × (Has at ts → t.span.start ≤ at) × Tidy at ts
+
+-- each of these tokens begins where one of all begins
+abbrev pub Among : List Tok → List Tok → Type 0
+Among all [] = Unit {0}
+Among all (t ∷ ts) = Has t.span.start all × Among all ts
 
 -- the token is still ahead, where it matters
 abbrev pub Awaits : Kind → ℕ → List Tok → Type 0
+Awaits Wide at ts = Unit {0}
 Awaits Free at ts = Unit {0}
 Awaits Lined at ts = Unit {0}
 Awaits Opposed at ts = Has at ts
+Awaits Loose at ts = Unit {0}
 
 abbrev pub Timely : Kind → ℕ → ParseError → Type 0
+Timely Wide at e = Unit {0}
 Timely Free at e = Unit {0}
 Timely Lined at e = Unit {0}
 Timely Opposed at e = IsLate (at + 1) e → ⊥
+Timely Loose at e = Unit {0}
+
+-- a fault stands at one of these tokens, or at the end of a text of this length
+abbrev pub StandsAmong : ℕ → List Tok → ParseError → Type 0
+StandsAmong len all (Unexpected at) = Has at all
+StandsAmong len all (UnexpectedEnd at) = at ≡ len
+StandsAmong len all (AmbiguousCall at) = Has at all
+StandsAmong len all (Nesting at) = Has at all
+StandsAmong len all (Lex e) = ⊥
+StandsAmong len all NoMemory = ⊥
 
 -- it is ambiguous at the token
 abbrev pub IsAmbiguousAt : {A : Type 0} → ℕ → Outcome A → Type 0
@@ -42,13 +64,22 @@ IsAmbiguousAt at (Ok x) = ⊥
 IsAmbiguousAt at (Err e) = e ≡ AmbiguousCall at
 
 abbrev pub CallsOn : {A : Type 0} → Kind → ℕ → Outcome A → Type 0
+CallsOn Wide at r = Unit {0}
 CallsOn Free at r = Far (at + 1) r
 CallsOn Lined at r = IsAmbiguousAt at r
 CallsOn Opposed at r = Unit {0}
+CallsOn Loose at r = Unit {0}
+
+abbrev pub DeepsOn : {A : Type 0} → Kind → ℕ → Outcome A → Type 0
+DeepsOn Wide at r = Unit {0}
+DeepsOn Free at r = Far (at + 1) r
+DeepsOn Lined at r = Far (at + 1) r
+DeepsOn Opposed at r = Far (at + 1) r
+DeepsOn Loose at r = Unit {0}
 
 -- what a refusal by the rules of the first says of the second
 abbrev pub After : {A : Type 0} → Kind → ℕ → ParseError → Outcome A → Type 0
-After kind at (Nesting k) r = k ≡ at → Far (at + 1) r
+After kind at (Nesting k) r = k ≡ at → DeepsOn kind at r
 After kind at (AmbiguousCall k) r = k ≡ at → CallsOn kind at r
 After kind at (Unexpected k) r = ⊥
 After kind at (UnexpectedEnd k) r = ⊥
@@ -63,24 +94,35 @@ Plain (Nesting k) = ⊥
 Plain (Lex e) = ⊥
 Plain NoMemory = ⊥
 
-abbrev pub Opposes : Kind → Type 0
-Opposes Free = ⊥
-Opposes Lined = ⊥
-Opposes Opposed = Unit {0}
+-- the second may stop where the first goes on
+abbrev pub MayStop : Kind → Type 0
+MayStop Wide = ⊥
+MayStop Free = ⊥
+MayStop Lined = ⊥
+MayStop Opposed = Unit {0}
+MayStop Loose = Unit {0}
+
+-- the second takes a token where the first takes it
+abbrev pub Takes : Setting → Setting → Tok → ℕ → Type 0
+Takes low high t m = low.rules.may_stand t m ≡ true → high.rules.may_stand t m ≡ true
+
+abbrev pub Calls : Setting → Setting → ℕ → Tok → Type 0
+Calls low high l t = low.rules.may_call l t ≡ true → high.rules.may_call l t ≡ true
 
 abbrev pub StandsBy : Kind → ℕ → Setting → Setting → Tok → ℕ → Type 0
-StandsBy Free at low high t m = high.rules.may_stand t m ≡ true
-StandsBy Lined at low high t m = high.rules.may_stand t m ≡ true
+StandsBy Wide at low high t m = Takes low high t m
+StandsBy Free at low high t m = Takes low high t m × (t.span.start ≡ at → high.rules.may_stand t m ≡ true)
+StandsBy Lined at low high t m = Takes low high t m × (t.span.start ≡ at → high.rules.may_stand t m ≡ true)
 StandsBy Opposed at low high t m =
-    ((t.span.start ≡ at → ⊥) → high.rules.may_stand t m ≡ true)
-    × (t.span.start ≡ at → high.rules.may_stand t m ≡ not (low.rules.may_stand t m))
+    ((t.span.start ≡ at → ⊥) → Takes low high t m) × (t.span.start ≡ at → high.rules.may_stand t m ≡ not (low.rules.may_stand t m))
+StandsBy Loose at low high t m = (t.span.start ≡ at → ⊥) → Takes low high t m
 
 abbrev pub CallsBy : Kind → ℕ → Setting → Setting → ℕ → Tok → Type 0
-CallsBy Free at low high l t = high.rules.may_call l t ≡ true
-CallsBy Lined at low high l t =
-    ((t.span.start ≡ at → ⊥) → high.rules.may_call l t ≡ true)
-    × (t.span.start ≡ at → high.rules.may_call l t ≡ low.rules.may_call l t)
-CallsBy Opposed at low high l t = high.rules.may_call l t ≡ true
+CallsBy Wide at low high l t = Calls low high l t
+CallsBy Free at low high l t = Calls low high l t × (t.span.start ≡ at → high.rules.may_call l t ≡ true)
+CallsBy Lined at low high l t = Calls low high l t × (t.span.start ≡ at → high.rules.may_call l t ≡ low.rules.may_call l t)
+CallsBy Opposed at low high l t = Calls low high l t
+CallsBy Loose at low high l t = Calls low high l t
 
 -- two settings
 pub record Pair : Type 0 where
@@ -88,6 +130,7 @@ pub record Pair : Type 0 where
   pub at : ℕ
   pub low : Setting
   pub high : Setting
+  pub all : List Tok
   pub bounded : Bounded low
   pub room : low.limit + 2 ≤ high.limit
   pub len : high.len ≡ low.len
@@ -106,22 +149,26 @@ module _ (f : Pair) where
   pub record Stands (lo hi : ℕ) (p : Place) : Type 0 where
     pub low : lo ≤ p.level
     pub high : p.level ≤ hi
-    pub ordered : Ordered p.ahead
+    pub ordered : Tidy f.at p.ahead
+    pub among : Among f.all p.ahead
     pub awaits : Awaits f.kind f.at p.ahead
+
+  abbrev pub Fits : ParseError → Type 0
+  Fits e = Timely f.kind f.at e × StandsAmong f.low.len f.all e
 
   abbrev pub SameEnd : {A : Type 0} → ℕ → ℕ → Outcome A → Outcome A → Type 0
   SameEnd lo hi (Ok x) (Ok y) = (x ≡ y) × Stands lo hi x.1
   SameEnd lo hi (Ok x) (Err e) = ⊥
   SameEnd lo hi (Err d) (Ok y) = ⊥
-  SameEnd lo hi (Err d) (Err e) = (d ≡ e) × Plain d × Timely f.kind f.at d
+  SameEnd lo hi (Err d) (Err e) = (d ≡ e) × Plain d × Fits d
 
   abbrev pub LowStops : {A : Type 0} → Outcome A → Outcome A → Type 0
   LowStops (Ok x) r = ⊥
-  LowStops (Err e) r = After f.kind f.at e r × Timely f.kind f.at e
+  LowStops (Err e) r = After f.kind f.at e r × Fits e
 
   abbrev pub HighStops : {A : Type 0} → Outcome A → Outcome A → Type 0
   HighStops o (Ok y) = ⊥
-  HighStops o (Err e) = Opposes f.kind × Far late o × (e ≡ Nesting f.at)
+  HighStops o (Err e) = MayStop f.kind × Far late o × (e ≡ Nesting f.at)
 
   -- both end alike, or the first is stopped by a rule, or the second is
   abbrev pub Rel : {A : Type 0} → ℕ → ℕ → Outcome A → Outcome A → Type 0
@@ -136,13 +183,22 @@ module _ (f : Pair) where
   -- ---- putting parsers together
 
   calls_then : {A B : Type 0} (kind : Kind) (k : A → Parser B) (r : Outcome A) → ((x : A) (p : Place) → BeginFrom late p.ahead → Far late (k x p)) → CallsOn kind f.at r → CallsOn kind f.at (and_then r k)
+  calls_then Wide k r h c = tt
   calls_then Free k r h c = far_then late k r c h
   calls_then Lined k (Ok x) h c = absurd c
   calls_then Lined k (Err e) h c = c
   calls_then Opposed k r h c = tt
+  calls_then Loose k r h c = tt
+
+  deeps_then : {A B : Type 0} (kind : Kind) (k : A → Parser B) (r : Outcome A) → ((x : A) (p : Place) → BeginFrom late p.ahead → Far late (k x p)) → DeepsOn kind f.at r → DeepsOn kind f.at (and_then r k)
+  deeps_then Wide k r h c = tt
+  deeps_then Free k r h c = far_then late k r c h
+  deeps_then Lined k r h c = far_then late k r c h
+  deeps_then Opposed k r h c = far_then late k r c h
+  deeps_then Loose k r h c = tt
 
   after_then : {A B : Type 0} (k : A → Parser B) (e : ParseError) (r : Outcome A) → ((x : A) (p : Place) → BeginFrom late p.ahead → Far late (k x p)) → After f.kind f.at e r → After f.kind f.at e (and_then r k)
-  after_then k (Nesting n) r h c = λ d. far_then late k r (c d) h
+  after_then k (Nesting n) r h c = λ d. deeps_then f.kind k r h (c d)
   after_then k (AmbiguousCall n) r h c = λ d. calls_then f.kind k r h (c d)
   after_then k (Unexpected n) r h c = absurd c
   after_then k (UnexpectedEnd n) r h c = absurd c
@@ -167,14 +223,14 @@ module _ (f : Pair) where
   rel_if lo end false o m r n h k = k refl
 
   rel_fit : {A : Type 0} (lo mid end : ℕ) → mid ≤ end → (o r : Outcome A) → Rel lo mid o r → Rel lo end o r
-  rel_fit lo mid end b (Ok x) (Ok y) (inl h) = inl (h.0, record { low = h.1.low; high = (let c : x.1.level ≤ mid = h.1.high in omega arith); ordered = h.1.ordered; awaits = h.1.awaits })
+  rel_fit lo mid end b (Ok x) (Ok y) (inl h) = inl (h.0, record { low = h.1.low; high = (let c : x.1.level ≤ mid = h.1.high in omega arith); ordered = h.1.ordered; among = h.1.among; awaits = h.1.awaits })
   rel_fit lo mid end b (Ok x) (Err e) (inl h) = absurd h
   rel_fit lo mid end b (Err d) (Ok y) (inl h) = absurd h
   rel_fit lo mid end b (Err d) (Err e) (inl h) = inl h
   rel_fit lo mid end b o r (inr h) = inr h
 
   pub rel_lower : {A : Type 0} (lo more end : ℕ) → lo ≤ more → (o r : Outcome A) → Rel more end o r → Rel lo end o r
-  rel_lower lo more end b (Ok x) (Ok y) (inl h) = inl (h.0, record { low = (let c : more ≤ x.1.level = h.1.low in omega arith); high = h.1.high; ordered = h.1.ordered; awaits = h.1.awaits })
+  rel_lower lo more end b (Ok x) (Ok y) (inl h) = inl (h.0, record { low = (let c : more ≤ x.1.level = h.1.low in omega arith); high = h.1.high; ordered = h.1.ordered; among = h.1.among; awaits = h.1.awaits })
   rel_lower lo more end b (Ok x) (Err e) (inl h) = absurd h
   rel_lower lo more end b (Err d) (Ok y) (inl h) = absurd h
   rel_lower lo more end b (Err d) (Err e) (inl h) = inl h
@@ -199,7 +255,7 @@ module _ (f : Pair) where
   -- of fewer levels, and up to more
   pub within : {A : Type 0} {lo hi end : ℕ} {r s : Parser A} (fewer more : ℕ) → fewer ≤ hi → end ≤ more → Beside lo hi end r s → Beside lo fewer more r s
   within {lo = lo} {hi = hi} {end = end} {r = r} {s = s} fewer more a b h = record {
-    alike = λ p i. rel_fit lo end more b (r p) (s p) (h.alike p (record { low = i.low; high = (let c : p.level ≤ fewer = i.high in omega arith); ordered = i.ordered; awaits = i.awaits }));
+    alike = λ p i. rel_fit lo end more b (r p) (s p) (h.alike p (record { low = i.low; high = (let c : p.level ≤ fewer = i.high in omega arith); ordered = i.ordered; among = i.among; awaits = i.awaits }));
     low_far = h.low_far;
     high_far = h.high_far;
   }
@@ -225,7 +281,7 @@ module _ (f : Pair) where
   at_span from = given (λ p. record { start = from; end = p.last })
 
   pub to_level : {lo hi : ℕ} (end m : ℕ) → lo ≤ m → m ≤ end → Beside lo hi end (set_level m) (set_level m)
-  to_level end m a b = record { alike = λ p i. inl (refl, record { low = a; high = b; ordered = i.ordered; awaits = i.awaits }); low_far = λ p b. b; high_far = λ p b. b }
+  to_level end m a b = record { alike = λ p i. inl (refl, record { low = a; high = b; ordered = i.ordered; among = i.among; awaits = i.awaits }); low_far = λ p b. b; high_far = λ p b. b }
 
   -- with the level of a place
   pub with_level : {A : Type 0} {lo hi end : ℕ} (g k : ℕ → Parser A) → ((m : ℕ) → lo ≤ m → m ≤ hi → Beside lo hi end (g m) (k m))

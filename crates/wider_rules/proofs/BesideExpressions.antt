@@ -293,7 +293,7 @@ module _ (f : Pair) (lo : ℕ) (low high : Readers) (held : Held f (lo + 1) low 
       rel_lower f lo (top f) (top f) (omega arith) (and_then (code.arguments f.low low (read.deeper f.low.limit p.level) p) (called from callee))
       (and_then (code.arguments f.high high (read.deeper f.high.limit p.level) p) (called from callee))
       ((both f (stopped_arguments (read.deeper f.low.limit p.level) (read.deeper f.high.limit p.level)) (called_beside from callee)).alike p
-      (record { low = c; high = i.high; ordered = i.ordered; awaits = i.awaits }))
+      (record { low = c; high = i.high; ordered = i.ordered; among = i.among; awaits = i.awaits }))
 
   pub call_beside : (from : ℕ) (callee : Expr) → Beside f lo (top f) (top f) (code.call f.low low from callee) (code.call f.high high from callee)
   unfolding code.call

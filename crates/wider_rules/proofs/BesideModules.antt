@@ -10,8 +10,7 @@ use Rattle.luau_grammar.specs.ReadModules.{readers, module_with}
 use Rattle.grammar_faults.specs.Fronts.{BeginFrom}
 use Rattle.grammar_faults.proofs.Local.{Far}
 use Rattle.grammar_faults.proofs.LocalModules.{readers_local}
-use Rattle.wider_rules.specs.Order.{Ordered}
-use Rattle.wider_rules.proofs.Beside.{Pair, top, late, Awaits, Rel, Beside, both, choose, done}
+use Rattle.wider_rules.proofs.Beside.{Tidy, Among, Pair, top, late, Awaits, Rel, Beside, both, choose, done}
 use Rattle.wider_rules.proofs.BesideTokens.{Starts, w, tails_from, refuses}
 use Rattle.wider_rules.proofs.BesideTypes as types
 use Rattle.wider_rules.proofs.BesideTypes.{Held, floor_top, ceil_top}
@@ -84,7 +83,7 @@ module _ (f : Pair) where
       both f (types.block_beside f 0 (readers f.low n) (readers f.high (suc j)) (held_at n j 1 d (omega arith))) (λ b. choose f (sees s.Stop) (done f b) (refuses f))
 
   -- the parser by both settings, over the same tokens
-  pub module_rel : (n j : ℕ) → n ≤ j → f.low.limit + 2 ≤ n → (ts : List Tok) → Ordered ts → Awaits f.kind f.at ts
+  pub module_rel : (n j : ℕ) → n ≤ j → f.low.limit + 2 ≤ n → (ts : List Tok) → Tidy f.at ts → Among f.all ts → Awaits f.kind f.at ts
       → Rel f 0 f.low.limit (module_with f.low n (before ts)) (module_with f.high (suc j) (before ts))
-  module_rel n j d h ts o a =
-      (module_beside n j d h).alike (before ts) (record { low = (let x : 0 ≤ 0 = omega arith in x); high = (let x : 0 ≤ f.low.limit = omega arith in x); ordered = o; awaits = a })
+  module_rel n j d h ts o g a =
+      (module_beside n j d h).alike (before ts) (record { low = (let x : 0 ≤ 0 = omega arith in x); high = (let x : 0 ≤ f.low.limit = omega arith in x); ordered = o; among = g; awaits = a })

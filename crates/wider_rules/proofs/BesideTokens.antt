@@ -14,8 +14,8 @@ use Rattle.luau_grammar.specs.Reading.{Setting, Parser, Outcome, pure, and_then,
 use Rattle.grammar_faults.specs.Fronts.{BeginFrom}
 use Rattle.grammar_faults.proofs.Local.{Tails, Far, here}
 use Rattle.grammar_faults.proofs.LocalTokens as locals
-use Rattle.wider_rules.specs.Order.{Ordered}
-use Rattle.wider_rules.proofs.Beside.{Kind, Free, Lined, Opposed, Has, Awaits, Timely, IsAmbiguousAt, CallsOn, Opposes, StandsBy, CallsBy, Pair, top, late, Stands, Rel, Beside, rel_then, rel_if, both, choose, within, done}
+use Rattle.wider_rules.specs.Order.{Has}
+use Rattle.wider_rules.proofs.Beside.{Kind, Wide, Free, Lined, Opposed, Loose, Tidy, Awaits, Timely, IsAmbiguousAt, CallsOn, DeepsOn, MayStop, StandsBy, CallsBy, Pair, top, late, Stands, Rel, Beside, rel_then, rel_if, both, choose, within, done}
 
 -- two lists that go on behind an offset
 abbrev pub tails_from : ℕ → Tails
@@ -35,77 +35,85 @@ same_or_not a b =
       | inr o ↦ elim o [ inl h ↦ inr (λ e. absurd (omega arith)) | inr h ↦ inr (λ e. absurd (omega arith)) ]
     ]
 
-has_from : (at b : ℕ) (ts : List Tok) → Has at ts → BeginFrom b ts → b ≤ at
-has_from at b [] h k = absurd h
-has_from at b (t ∷ ts) (inl e) k = omega arith
-has_from at b (t ∷ ts) (inr h) k = has_from at b ts h k.1
-
-not_behind : (at : ℕ) (t : Tok) (ts : List Tok) → Ordered (t ∷ ts) → Has at (t ∷ ts) → at + 1 ≤ t.span.start → ⊥
+not_behind : (at : ℕ) (t : Tok) (ts : List Tok) → Tidy at (t ∷ ts) → Has at (t ∷ ts) → at + 1 ≤ t.span.start → ⊥
 not_behind at t ts o (inl e) k = absurd (omega arith)
-not_behind at t ts o (inr h) k = let c = has_from at (t.span.start + 1) ts h o.0 in absurd (omega arith)
+not_behind at t ts o (inr h) k = let c : t.span.start ≤ at = o.1 h in absurd (omega arith)
 
-timely_token : (kind : Kind) (at : ℕ) (t : Tok) (ts : List Tok) → Ordered (t ∷ ts) → Awaits kind at (t ∷ ts) → Timely kind at (Unexpected t.span.start)
+timely_token : (kind : Kind) (at : ℕ) (t : Tok) (ts : List Tok) → Tidy at (t ∷ ts) → Awaits kind at (t ∷ ts) → Timely kind at (Unexpected t.span.start)
+timely_token Wide at t ts o h = tt
 timely_token Free at t ts o h = tt
 timely_token Lined at t ts o h = tt
 timely_token Opposed at t ts o h = not_behind at t ts o h
+timely_token Loose at t ts o h = tt
 
-timely_deep : (kind : Kind) (at : ℕ) (t : Tok) (ts : List Tok) → Ordered (t ∷ ts) → Awaits kind at (t ∷ ts) → Timely kind at (Nesting t.span.start)
+timely_deep : (kind : Kind) (at : ℕ) (t : Tok) (ts : List Tok) → Tidy at (t ∷ ts) → Awaits kind at (t ∷ ts) → Timely kind at (Nesting t.span.start)
+timely_deep Wide at t ts o h = tt
 timely_deep Free at t ts o h = tt
 timely_deep Lined at t ts o h = tt
 timely_deep Opposed at t ts o h = not_behind at t ts o h
+timely_deep Loose at t ts o h = tt
 
-timely_call : (kind : Kind) (at : ℕ) (t : Tok) (ts : List Tok) → Ordered (t ∷ ts) → Awaits kind at (t ∷ ts) → Timely kind at (AmbiguousCall t.span.start)
+timely_call : (kind : Kind) (at : ℕ) (t : Tok) (ts : List Tok) → Tidy at (t ∷ ts) → Awaits kind at (t ∷ ts) → Timely kind at (AmbiguousCall t.span.start)
+timely_call Wide at t ts o h = tt
 timely_call Free at t ts o h = tt
 timely_call Lined at t ts o h = tt
 timely_call Opposed at t ts o h = not_behind at t ts o h
+timely_call Loose at t ts o h = tt
 
 timely_end : (kind : Kind) (at n : ℕ) → Awaits kind at [] → Timely kind at (UnexpectedEnd n)
+timely_end Wide at n h = tt
 timely_end Free at n h = tt
 timely_end Lined at n h = tt
 timely_end Opposed at n h = absurd h
-
--- a level that the first refuses, the second takes
-high_takes : (kind : Kind) (at : ℕ) (low high : Setting) (t : Tok) (m : ℕ) → StandsBy kind at low high t m → low.rules.may_stand t m ≡ false → high.rules.may_stand t m ≡ true
-high_takes Free at low high t m h e = h
-high_takes Lined at low high t m h e = h
-high_takes Opposed at low high t m h e =
-    elim (same_or_not t.span.start at) [
-      | inl d ↦ h.1 d ∙ ap not e
-      | inr d ↦ h.0 d
-    ]
+timely_end Loose at n h = tt
 
 abbrev Both : Kind → ℕ → Setting → Tok → ℕ → List Tok → Type 0
 Both kind at high t m ts = (high.rules.may_stand t m ≡ true) × (Awaits kind at (t ∷ ts) → Awaits kind at ts)
 
 abbrev One : Kind → ℕ → Setting → Tok → ℕ → Type 0
-One kind at high t m = Opposes kind × (t.span.start ≡ at) × (high.rules.may_stand t m ≡ false)
+One kind at high t m = MayStop kind × (t.span.start ≡ at) × (high.rules.may_stand t m ≡ false)
 
 still_has : (at : ℕ) (t : Tok) (ts : List Tok) → (t.span.start ≡ at → ⊥) → Has at (t ∷ ts) → Has at ts
 still_has at t ts n (inl e) = absurd (n e)
 still_has at t ts n (inr h) = h
 
+by_case : (kind : Kind) (at : ℕ) (high : Setting) (t : Tok) (m : ℕ) (ts : List Tok) → MayStop kind → t.span.start ≡ at → (Awaits kind at (t ∷ ts) → Awaits kind at ts) → (b : Bool) → high.rules.may_stand t m ≡ b
+    → Both kind at high t m ts ⊎ One kind at high t m
+by_case kind at high t m ts h d k true e = inl (e, k)
+by_case kind at high t m ts h d k false e = inr (h, d, e)
+
 -- a level that the first takes, the second takes but at the token
 low_takes : (kind : Kind) (at : ℕ) (low high : Setting) (t : Tok) (m : ℕ) (ts : List Tok) → StandsBy kind at low high t m → low.rules.may_stand t m ≡ true
     → Both kind at high t m ts ⊎ One kind at high t m
-low_takes Free at low high t m ts h e = inl (h, λ _. tt)
-low_takes Lined at low high t m ts h e = inl (h, λ _. tt)
+low_takes Wide at low high t m ts h e = inl (h e, λ _. tt)
+low_takes Free at low high t m ts h e = inl (h.0 e, λ _. tt)
+low_takes Lined at low high t m ts h e = inl (h.0 e, λ _. tt)
 low_takes Opposed at low high t m ts h e =
     elim (same_or_not t.span.start at) [
       | inl d ↦ inr (tt, d, h.1 d ∙ ap not e)
-      | inr d ↦ inl (h.0 d, still_has at t ts d)
+      | inr d ↦ inl (h.0 d e, still_has at t ts d)
+    ]
+low_takes Loose at low high t m ts h e =
+    elim (same_or_not t.span.start at) [
+      | inl d ↦ by_case Loose at high t m ts tt d (λ _. tt) (high.rules.may_stand t m) refl
+      | inr d ↦ inl (h d e, λ _. tt)
     ]
 
 call_taken : (kind : Kind) (at : ℕ) (low high : Setting) (l : ℕ) (t : Tok) → CallsBy kind at low high l t → low.rules.may_call l t ≡ true → high.rules.may_call l t ≡ true
-call_taken Free at low high l t h e = h
-call_taken Lined at low high l t h e =
-    elim (same_or_not t.span.start at) [
-      | inl d ↦ h.1 d ∙ e
-      | inr d ↦ h.0 d
-    ]
-call_taken Opposed at low high l t h e = h
+call_taken Wide at low high l t h e = h e
+call_taken Free at low high l t h e = h.0 e
+call_taken Lined at low high l t h e = h.0 e
+call_taken Opposed at low high l t h e = h e
+call_taken Loose at low high l t h e = h e
 
-behind_at : (at : ℕ) (t : Tok) (ts : List Tok) → BeginFrom (t.span.start + 1) ts → t.span.start ≡ at → BeginFrom (at + 1) ts
-behind_at at t ts b e = subst (λ z. BeginFrom (z + 1) ts) e b
+-- at the token, a level that the first refuses
+deep_on : {A : Type 0} (kind : Kind) (at : ℕ) (low high : Setting) (t : Tok) (m : ℕ) (r : Outcome A) → StandsBy kind at low high t m → low.rules.may_stand t m ≡ false → t.span.start ≡ at
+    → (high.rules.may_stand t m ≡ true → Far (at + 1) r) → DeepsOn kind at r
+deep_on Wide at low high t m r h e d k = tt
+deep_on Free at low high t m r h e d k = k (h.1 d)
+deep_on Lined at low high t m r h e d k = k (h.1 d)
+deep_on Opposed at low high t m r h e d k = k (h.1 d ∙ ap not e)
+deep_on Loose at low high t m r h e d k = tt
 
 module _ (f : Pair) where
   abbrev pub w : Tails
@@ -116,8 +124,8 @@ module _ (f : Pair) where
   refused : (A : Type 0) (ts : List Tok) (l m lo hi end : ℕ) → Stands f lo hi (record { ahead = ts; last = l; level = m })
       → Rel f {A = A} lo end (Err (refusal f.low (record { ahead = ts; last = l; level = m }))) (Err (refusal f.high (record { ahead = ts; last = l; level = m })))
   unfolding refusal
-  refused A [] l m lo hi end i = inl (ap (λ n. UnexpectedEnd n) (sym f.len), tt, timely_end f.kind f.at f.low.len i.awaits)
-  refused A (t ∷ ts) l m lo hi end i = inl (refl, tt, timely_token f.kind f.at t ts i.ordered i.awaits)
+  refused A [] l m lo hi end i = inl (ap (λ n. UnexpectedEnd n) (sym f.len), tt, (timely_end f.kind f.at f.low.len i.awaits, refl))
+  refused A (t ∷ ts) l m lo hi end i = inl (refl, tt, (timely_token f.kind f.at t ts i.ordered i.awaits, i.among.0))
 
   pub refuses : {A : Type 0} {lo hi end : ℕ} → Beside f lo hi end (refuse f.low {A = A}) (refuse f.high {A = A})
   refuses {A = A} {lo = lo} {hi = hi} {end = end} = record {
@@ -128,26 +136,29 @@ module _ (f : Pair) where
 
   -- ---- one token
 
+  abbrev taking : Tok → List Tok → ℕ → Bool → Outcome Tok
+  taking t ts m b = if b then Ok (t, behind t ts m) else Err (Nesting t.span.start)
+
   token_case : (t : Tok) (ts : List Tok) (l m lo hi : ℕ) → m ≤ f.low.limit + 2 → Stands f lo hi (here t ts l m) → (b : Bool) → f.low.rules.may_stand t m ≡ b
-      → Rel f lo f.low.limit (if b then Ok (t, behind t ts m) else Err (Nesting t.span.start)) (if f.high.rules.may_stand t m then Ok (t, behind t ts m) else Err (Nesting t.span.start))
+      → Rel f lo f.low.limit (taking t ts m b) (taking t ts m (f.high.rules.may_stand t m))
   token_case t ts l m lo hi c i true e =
-      let other : Bool → Outcome Tok = λ z. if z then Ok (t, behind t ts m) else Err (Nesting t.span.start) in
       elim (low_takes f.kind f.at f.low f.high t m ts (f.stands t m c) e) [
-        | inl h ↦ subst (λ z. Rel f lo f.low.limit (Ok (t, behind t ts m)) (other z)) (sym h.0)
-            (inl (refl, record { low = i.low; high = f.bounded t m e; ordered = i.ordered.1; awaits = h.1 i.awaits }))
-        | inr h ↦ subst (λ z. Rel f lo f.low.limit (Ok (t, behind t ts m)) (other z)) (sym h.2)
-            (inr (inr (h.0, behind_at f.at t ts i.ordered.0 h.1, ap (λ z. Nesting z) h.1)))
+        | inl h ↦ subst (λ z. Rel f lo f.low.limit (Ok (t, behind t ts m)) (taking t ts m z)) (sym h.0)
+            (inl (refl, record { low = i.low; high = f.bounded t m e; ordered = i.ordered.2; among = i.among.1; awaits = h.1 i.awaits }))
+        | inr h ↦ subst (λ z. Rel f lo f.low.limit (Ok (t, behind t ts m)) (taking t ts m z)) (sym h.2)
+            (inr (inr (h.0, i.ordered.0 h.1, ap (λ z. Nesting z) h.1)))
       ]
   token_case t ts l m lo hi c i false e =
-      let other : Bool → Outcome Tok = λ z. if z then Ok (t, behind t ts m) else Err (Nesting t.span.start) in
-      let d = high_takes f.kind f.at f.low f.high t m (f.stands t m c) e in
-      subst (λ z. Rel f {A = Tok} lo f.low.limit (Err (Nesting t.span.start)) (other z)) (sym d)
-      (inr (inl ((λ k. behind_at f.at t ts i.ordered.0 k), timely_deep f.kind f.at t ts i.ordered i.awaits)))
+      inr (inl (
+        (λ k. deep_on f.kind f.at f.low f.high t m (taking t ts m (f.high.rules.may_stand t m)) (f.stands t m c) e k
+            (λ d. subst (λ z. Far {A = Tok} (late f) (taking t ts m z)) (sym d) (i.ordered.0 k))),
+        (timely_deep f.kind f.at t ts i.ordered i.awaits, i.among.0),
+      ))
 
   next_any : (ts : List Tok) (l m lo hi : ℕ) → m ≤ f.low.limit + 2 → Stands f lo hi (record { ahead = ts; last = l; level = m })
       → Rel f lo f.low.limit (next f.low (record { ahead = ts; last = l; level = m })) (next f.high (record { ahead = ts; last = l; level = m }))
   unfolding next
-  next_any [] l m lo hi c i = inl (ap (λ n. UnexpectedEnd n) (sym f.len), tt, timely_end f.kind f.at f.low.len i.awaits)
+  next_any [] l m lo hi c i = inl (ap (λ n. UnexpectedEnd n) (sym f.len), tt, (timely_end f.kind f.at f.low.len i.awaits, refl))
   next_any (t ∷ ts) l m lo hi c i = token_case t ts l m lo hi c i (f.low.rules.may_stand t m) refl
 
   deep_enough : (hi m : ℕ) → hi ≤ top f → m ≤ hi → m ≤ f.low.limit + 2
@@ -172,26 +183,23 @@ module _ (f : Pair) where
       (next_any (t ∷ ts) l m lo hi c i) (λ x p j. inl (refl, j)) (λ x p b. b) (λ x p b. b)
 
   -- the second takes the token, so all behind it is late
-  next_far : (t : Tok) (ts : List Tok) (l m : ℕ) → BeginFrom (t.span.start + 1) ts → t.span.start ≡ f.at → f.high.rules.may_stand t m ≡ true
+  next_far : (t : Tok) (ts : List Tok) (l m : ℕ) → BeginFrom (late f) ts → f.high.rules.may_stand t m ≡ true
       → Far {A = Unit {0}} (late f) (and_then (next f.high (here t ts l m)) (λ _. pure (tt {0})))
   unfolding next
-  next_far t ts l m b e d =
+  next_far t ts l m b d =
       let other : Bool → Outcome (Unit {0}) = λ z. and_then (if z then Ok (t, behind t ts m) else Err (Nesting t.span.start)) (λ _. pure (tt {0})) in
-      subst (λ z. Far {A = Unit {0}} (late f) (other z)) (sym d) (behind_at f.at t ts b e)
-
-  stands_free : (kind : Kind) (at : ℕ) (low high : Setting) (t : Tok) (m : ℕ) → (kind ≡ Free) → StandsBy kind at low high t m → high.rules.may_stand t m ≡ true
-  stands_free Free at low high t m e h = h
-  stands_free Lined at low high t m e h = h
-  stands_free Opposed at low high t m e h = absurd (cc)
+      subst (λ z. Far {A = Unit {0}} (late f) (other z)) (sym d) b
 
   abbrev calling : Tok → List Tok → ℕ → ℕ → Bool → Outcome (Unit {0})
   calling t ts l m d = if d then and_then (next f.high (here t ts l m)) (λ _. pure (tt {0})) else Err (AmbiguousCall t.span.start)
 
-  stopped_call : (kind : Kind) (t : Tok) (ts : List Tok) (l m : ℕ) → BeginFrom (t.span.start + 1) ts → f.low.rules.may_call l t ≡ false → StandsBy kind f.at f.low f.high t m → CallsBy kind f.at f.low f.high l t
-      → t.span.start ≡ f.at → CallsOn kind f.at (calling t ts l m (f.high.rules.may_call l t))
-  stopped_call Free t ts l m b c h k e = subst (λ z. Far (late f) (calling t ts l m z)) (sym k) (next_far t ts l m b e h)
+  stopped_call : (kind : Kind) (t : Tok) (ts : List Tok) (l m : ℕ) → (t.span.start ≡ f.at → BeginFrom (late f) ts) → f.low.rules.may_call l t ≡ false → StandsBy kind f.at f.low f.high t m
+      → CallsBy kind f.at f.low f.high l t → t.span.start ≡ f.at → CallsOn kind f.at (calling t ts l m (f.high.rules.may_call l t))
+  stopped_call Wide t ts l m b c h k e = tt
+  stopped_call Free t ts l m b c h k e = subst (λ z. Far (late f) (calling t ts l m z)) (sym (k.1 e)) (next_far t ts l m (b e) (h.1 e))
   stopped_call Lined t ts l m b c h k e = subst (λ z. IsAmbiguousAt f.at (calling t ts l m z)) (sym (k.1 e ∙ c)) (ap (λ z. AmbiguousCall z) e)
   stopped_call Opposed t ts l m b c h k e = tt
+  stopped_call Loose t ts l m b c h k e = tt
 
   call_case : (t : Tok) (ts : List Tok) (l m lo hi : ℕ) → m ≤ f.low.limit + 2 → Stands f lo hi (here t ts l m) → (b : Bool) → f.low.rules.may_call l t ≡ b
       → Rel f lo f.low.limit (if b then and_then (next f.low (here t ts l m)) (λ _. pure (tt {0})) else Err (AmbiguousCall t.span.start)) (calling t ts l m (f.high.rules.may_call l t))
@@ -199,7 +207,7 @@ module _ (f : Pair) where
       subst (λ z. Rel f lo f.low.limit (and_then (next f.low (here t ts l m)) (λ _. pure (tt {0}))) (calling t ts l m z))
       (sym (call_taken f.kind f.at f.low f.high l t (f.calls l t) e)) (open_free t ts l m lo hi c i)
   call_case t ts l m lo hi c i false e =
-      inr (inl (stopped_call f.kind t ts l m i.ordered.0 e (f.stands t m c) (f.calls l t), timely_call f.kind f.at t ts i.ordered i.awaits))
+      inr (inl (stopped_call f.kind t ts l m i.ordered.0 e (f.stands t m c) (f.calls l t), (timely_call f.kind f.at t ts i.ordered i.awaits, i.among.0)))
 
   open_any : (ts : List Tok) (l m lo hi : ℕ) → m ≤ f.low.limit + 2 → Stands f lo hi (record { ahead = ts; last = l; level = m })
       → Rel f lo f.low.limit (open_arguments f.low (record { ahead = ts; last = l; level = m })) (open_arguments f.high (record { ahead = ts; last = l; level = m }))
@@ -230,7 +238,7 @@ module _ (f : Pair) where
       let a : lo ≤ p.level = i.low in
       subst (λ z. both z (nat_le p.level f.high.limit)) (sym (le-leb p.level f.low.limit c))
       (subst (λ z. both true z) (sym (le-leb p.level f.high.limit d))
-      (inl (refl, record { low = (let x : lo ≤ p.level + 1 = omega arith in x); high = (let x : p.level + 1 ≤ top f = omega arith in x); ordered = i.ordered; awaits = i.awaits })))
+      (inl (refl, record { low = (let x : lo ≤ p.level + 1 = omega arith in x); high = (let x : p.level + 1 ≤ top f = omega arith in x); ordered = i.ordered; among = i.among; awaits = i.awaits })))
 
   pub raises : {lo : ℕ} → Beside f lo f.low.limit (top f) (raise f.low) (raise f.high)
   raises {lo = lo} = record { alike = λ p i. raised_at lo 0 p i; low_far = λ p b. (locals.raises f.low {w = w}).one p b; high_far = λ p b. (locals.raises f.high {w = w}).one p b }
@@ -258,7 +266,7 @@ module _ (f : Pair) where
   leveled : {A : Type 0} (lo hi m : ℕ) → lo ≤ m → m ≤ hi → (o r : Outcome A) → Rel f (lo + 1) (top f) o r → Rel f lo hi (restored m o) (restored m r)
   leveled lo hi m a b o r h =
       rel_then f (lo + 1) (top f) lo hi (λ x q. Ok (x, at_level m q)) (λ x q. Ok (x, at_level m q)) o r h
-      (λ x p i. inl (refl, record { low = a; high = b; ordered = i.ordered; awaits = i.awaits })) (λ x p d. d) (λ x p d. d)
+      (λ x p i. inl (refl, record { low = a; high = b; ordered = i.ordered; among = i.among; awaits = i.awaits })) (λ x p d. d) (λ x p d. d)
 
   abbrev phrase_by : {A : Type 0} → Setting → (Place → Bool) → Parser A → Place → Bool → Outcome A
   phrase_by set may r p b = if b then restored p.level (r (raised p)) else Err (if may p then deep_refusal set p else refusal set p)
@@ -273,10 +281,11 @@ module _ (f : Pair) where
   stopped_deep {A = A} may s h [] l m lo hi d i false e =
       subst (λ o. Rel f {A = A} lo hi (Err (UnexpectedEnd f.low.len)) (restored m o)) (sym (h.refuses (record { ahead = []; last = l; level = m + 1 }) e)) (refused f A [] l m lo hi hi i)
   stopped_deep {A = A} may s h (t ∷ ts) l m lo hi d i true e =
+      let r : Outcome A = restored m (s (here t ts l (m + 1))) in
       inr (inl (
-        (λ k. restored_far m (s (here t ts l (m + 1)))
-            (h.takes (late f) t ts l (m + 1) (behind_at f.at t ts i.ordered.0 k) (high_takes f.kind f.at f.low f.high t (m + 1) (f.stands t (m + 1) (omega arith)) (too_deep t (m + 1) (omega arith) (f.low.rules.may_stand t (m + 1)) refl)) e)),
-        timely_deep f.kind f.at t ts i.ordered i.awaits,
+        (λ k. deep_on f.kind f.at f.low f.high t (m + 1) r (f.stands t (m + 1) (omega arith)) (too_deep t (m + 1) (omega arith) (f.low.rules.may_stand t (m + 1)) refl) k
+            (λ c. restored_far m (s (here t ts l (m + 1))) (h.takes (late f) t ts l (m + 1) (i.ordered.0 k) c e))),
+        (timely_deep f.kind f.at t ts i.ordered i.awaits, i.among.0),
       ))
   stopped_deep {A = A} may s h (t ∷ ts) l m lo hi d i false e =
       subst (λ o. Rel f {A = A} lo hi (Err (Unexpected t.span.start)) (restored m o)) (sym (h.refuses (here t ts l (m + 1)) e)) (refused f A (t ∷ ts) l m lo hi hi i)
@@ -294,7 +303,7 @@ module _ (f : Pair) where
       let a : p.level ≤ f.low.limit = leb-true p.level f.low.limit e in
       let g : lo ≤ p.level = i.low in
       leveled lo hi p.level i.low i.high (r (raised p)) (s (raised p))
-      (k.alike (raised p) (record { low = (let x : lo + 1 ≤ p.level + 1 = omega arith in x); high = (let x : p.level + 1 ≤ top f = omega arith in x); ordered = i.ordered; awaits = i.awaits }))
+      (k.alike (raised p) (record { low = (let x : lo + 1 ≤ p.level + 1 = omega arith in x); high = (let x : p.level + 1 ≤ top f = omega arith in x); ordered = i.ordered; among = i.among; awaits = i.awaits }))
   phrase_at {A = A} may r s h peek lo hi c k p i false e =
       let a : p.level ≤ hi = i.high in
       let d : p.level ≡ f.low.limit + 1 = deep_level p.level e (omega arith) in
@@ -307,7 +316,7 @@ module _ (f : Pair) where
       let a : p.level ≤ f.low.limit = i.high in
       let g : lo ≤ p.level = i.low in
       leveled lo f.low.limit p.level i.low i.high (r (raised p)) (s (raised p))
-      (k.alike (raised p) (record { low = (let x : lo + 1 ≤ p.level + 1 = omega arith in x); high = (let x : p.level + 1 ≤ top f = omega arith in x); ordered = i.ordered; awaits = i.awaits }))
+      (k.alike (raised p) (record { low = (let x : lo + 1 ≤ p.level + 1 = omega arith in x); high = (let x : p.level + 1 ≤ top f = omega arith in x); ordered = i.ordered; among = i.among; awaits = i.awaits }))
 
   phrase_high : {A : Type 0} (may : Place → Bool) (s : Parser A) (p : Place) → p.level ≤ f.high.limit → restored p.level (s (raised p)) ≡ phrase f.high may s p
   unfolding phrase

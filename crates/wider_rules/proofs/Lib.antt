@@ -7,4 +7,5 @@ pub mod BesideOperators
 pub mod BesideStatements
 pub mod Starts
 pub mod BesideModules
-pub mod Unexpected
+pub mod Runs
+pub mod Settled

@@ -1,5 +1,5 @@
 -- Tokens in the order of a text.
-use Rattle.std.specs.Prelude.{◌+◌, List, [], ◌∷◌}
+use Rattle.std.specs.Prelude.{◌≡◌, ◌+◌, ◌⊎◌, ℕ, List, [], ◌∷◌}
 use Rattle.luau_lex.specs.Tokens.{Tok}
 use Rattle.grammar_faults.specs.Fronts.{BeginFrom}
 
@@ -7,3 +7,8 @@ use Rattle.grammar_faults.specs.Fronts.{BeginFrom}
 abbrev pub Ordered : List Tok → Type 0
 Ordered [] = Unit {0}
 Ordered (t ∷ ts) = BeginFrom (t.span.start + 1) ts × Ordered ts
+
+-- a token among these begins at an offset
+abbrev pub Has : ℕ → List Tok → Type 0
+Has at [] = ⊥
+Has at (t ∷ ts) = (t.span.start ≡ at) ⊎ Has at ts

@@ -1,0 +1,5 @@
+pub mod Splits
+pub mod Completions
+pub mod Told
+pub mod Levels
+pub mod TheFault

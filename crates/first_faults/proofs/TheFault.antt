@@ -1,0 +1,87 @@
+-- What the parser of a text tells is its fault.
+use Rattle.std.proofs.Common.{◌≡◌, ℕ, ◌+◌, ◌-◌, ◌≤◌, ◌<◌, List, [], ◌∷◌, ◌++◌, refl, sym, ◌∙◌, ap, subst, inl, inr, arith, append_assoc, append-nil, Option}
+use Rattle.std.specs.Prelude.{Ok, Err, drop, length}
+use Rattle.luau_lex.specs.Tokens.{Tok}
+use Rattle.luau_lex.specs.declared.token.LexError.{LexError}
+use Rattle.luau_lex.specs.Places.{StandInOrder, first_line_len}
+use Rattle.luau_lex.specs.Lexed.{Lexed}
+use Rattle.luau_grammar.specs.declared.error.ParseError.{ParseError}
+use Rattle.luau_grammar.specs.declared.error.ParseError.TheVariants.{AmbiguousCall, Nesting}
+use Rattle.grammar_faults.specs.Fronts.{BeginFrom}
+use Rattle.fault_places.specs.Faults.{IsFront, IsAmbiguous, IsFault, IsFaultAt, IsFirstFault, HasNoFaultAt, BeginBefore}
+use Rattle.wider_rules.specs.Order.{Ordered}
+use Rattle.wider_rules.proofs.Settled.{begin_less}
+use Rattle.first_faults.proofs.Splits.{late_behind, early_before}
+use Rattle.first_faults.proofs.Told.{told, Passes, Overtakes, passes_over, is_front, deep_token, OvertakesAll, one_of, over_call, over_deep, ambiguous}
+use Rattle.first_faults.proofs.Levels.{not_deep, can_stand}
+
+module _ (text : List ℕ) where
+  behind_two : (front : List Tok) (t u : Tok) (us : List Tok) → Ordered (front ++ t ∷ u ∷ us) → Ordered ((front ++ t ∷ []) ++ u ∷ us)
+  behind_two front t u us o = subst Ordered (sym (append_assoc front (t ∷ []) (u ∷ us))) o
+
+  late_two : (front : List Tok) (t u : Tok) (us : List Tok) → Ordered (front ++ t ∷ u ∷ us) → BeginFrom u.span.start us
+  late_two front t u us o = begin_less u.span.start (u.span.start + 1) us (omega arith) (late_behind (front ++ t ∷ []) u us (behind_two front t u us o))
+
+  module _ (ts : List Tok) (order : Ordered ts) (e : ParseError) (fault : told text ts ≡ Err e) where
+    no_fault : (front : List Tok) (t u : Tok) (us : List Tok) → ts ≡ front ++ t ∷ u ∷ us → Overtakes t.span.start e → Passes u.span.start e → HasNoFaultAt text front t (u ∷ us)
+    no_fault front t u us q h k =
+        let x = one_of text ts order e fault front t (u ∷ us) q h in
+        let o = subst Ordered q order in
+        let g = subst (λ z. told text z ≡ Err e) q fault in (
+          x.0,
+          x.1,
+          (λ c. elim c [
+            | inl d ↦ not_deep text front t u us o e g h (late_two front t u us o) d
+            | inr d ↦ d.0 (is_front text (front ++ t ∷ []) u us (behind_two front t u us o) e (subst (λ z. told text z ≡ Err e) (sym (append_assoc front (t ∷ []) (u ∷ us))) g) k)
+          ]),
+        )
+
+    module _ (t : Tok) (behind : List Tok) (passes : Passes t.span.start e) where
+      walk : (front us : List Tok) → ts ≡ front ++ (us ++ t ∷ behind) → OvertakesAll text us e → IsFaultAt text (front ++ us) t behind e → IsFirstFault text front (us ++ t ∷ behind) e
+      walk front [] q h f = inl (subst (λ z. IsFaultAt text z t behind e) (append-nil front) f)
+      walk front (v ∷ []) q h f =
+          inr (
+            no_fault front v t behind q h.0 passes,
+            walk (front ++ v ∷ []) [] (q ∙ sym (append_assoc front (v ∷ []) (t ∷ behind))) h.1 (subst (λ z. IsFaultAt text z t behind e) (sym (append_assoc front (v ∷ []) [])) f),
+          )
+      walk front (v ∷ w ∷ ws) q h f =
+          inr (
+            no_fault front v w (ws ++ t ∷ behind) q h.0 (passes_over w.span.start e h.1.0),
+            walk (front ++ v ∷ []) (w ∷ ws) (q ∙ sym (append_assoc front (v ∷ []) (w ∷ (ws ++ t ∷ behind)))) h.1 (subst (λ z. IsFaultAt text z t behind e) (sym (append_assoc front (v ∷ []) (w ∷ ws))) f),
+          )
+
+  pub ambiguous_fault : (ts : List Tok) → Ordered ts → (at : ℕ) → told text ts ≡ Err (AmbiguousCall at) → IsFault text ts (AmbiguousCall at)
+  ambiguous_fault ts o at h =
+      let k = ambiguous text ts o at h in
+      let front = k.0 in
+      let t = k.1 in
+      let behind = k.2 in
+      let start : t.span.start ≡ at = k.4 in
+      let early = subst (λ z. BeginBefore z front) start (early_before front t behind (subst Ordered k.3 o)) in
+      subst (λ z. IsFirstFault text [] z (AmbiguousCall at)) (sym k.3)
+      (walk ts o (AmbiguousCall at) h t behind (let x : t.span.start ≤ at = omega arith in x) [] front k.3 (over_call text at front early) (sym start, k.6))
+
+  pub deep_fault : (front : List Tok) (t u : Tok) (us : List Tok) → Ordered (front ++ t ∷ u ∷ us) → told text (front ++ t ∷ u ∷ us) ≡ Err (Nesting t.span.start) → IsFront (front ++ t ∷ []) u
+      → IsFault text (front ++ t ∷ u ∷ us) (Nesting t.span.start)
+  deep_fault front t u us o h k =
+      let d = deep_token text front t (u ∷ us) o h in
+      walk (front ++ t ∷ u ∷ us) o (Nesting t.span.start) h t (u ∷ us) (let x : t.span.start ≤ t.span.start = omega arith in x) [] front refl
+      (over_deep text t.span.start front (early_before front t (u ∷ us) o)) (refl, d.0, d.1, inl (can_stand text front t u us o h (late_two front t u us o) k))
+
+-- ---- the tokens of a text
+
+begin_in_order : (ts : List Tok) (at : ℕ) (text : List ℕ) → StandInOrder at text ts → BeginFrom at ts
+begin_in_order [] at text h = tt
+begin_in_order (t ∷ ts) at text h =
+    let a : at ≤ t.span.start = h.0 in
+    let b : t.span.start < t.span.end = h.1 in
+    (h.0, begin_less at t.span.end ts (omega arith) (begin_in_order ts t.span.end (drop (t.span.end - at) text) h.4))
+
+in_order : (ts : List Tok) (at : ℕ) (text : List ℕ) → StandInOrder at text ts → Ordered ts
+in_order [] at text h = tt
+in_order (t ∷ ts) at text h =
+    let b : t.span.start < t.span.end = h.1 in
+    (begin_less (t.span.start + 1) t.span.end ts (omega arith) (begin_in_order ts t.span.end (drop (t.span.end - at) text) h.4), in_order ts t.span.end (drop (t.span.end - at) text) h.4)
+
+pub lexed_order : (text : List ℕ) (ts : List Tok) (fault : Option LexError) → Lexed text ts fault → Ordered ts
+lexed_order text ts fault h = in_order ts (first_line_len text) (drop (first_line_len text) text) h.in_order

@@ -1,0 +1,8 @@
+use Rattle.first_faults.proofs.TheFault.{ambiguous_fault, deep_fault}
+use Rattle.first_faults.proofs.laws.what_is_told_is_the_fault.Goals as goal
+
+pub returns-clause-ambiguous : goal.returns-clause-ambiguous
+returns-clause-ambiguous c = λ text ts at o h. ambiguous_fault text ts o at h
+
+pub returns-clause-too_deep : goal.returns-clause-too_deep
+returns-clause-too_deep c = deep_fault
