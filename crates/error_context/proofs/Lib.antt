@@ -6,3 +6,4 @@ pub mod MadeFacts
 pub mod SideFacts
 pub mod KeptFacts
 pub mod OpFacts
+pub mod NormalFacts

@@ -62,6 +62,9 @@ right_clean arena a b c =
     given_clean arena arena (refs_in a ++ refs_in b) (refs_in b) [] (adds_nothing arena (given_refs (refs_in a ++ refs_in b))) c.there
     (λ at inside. Contains-append_right (refs_in a) (refs_in b) at inside)
 
+pub itself_clean : (arena : Arena) (a : Entries) → IsContext arena a → All (IsClean arena arena (given_refs (refs_in a))) (refs_in a)
+itself_clean arena a c = given_clean arena arena (refs_in a) (refs_in a) [] (adds_nothing arena (given_refs (refs_in a))) c.there (λ at inside. inside)
+
 -- ---- one call after another
 
 -- what a call that was given some references gave
@@ -98,6 +101,32 @@ module _ (old now new : Arena) (says a outside : Entries) (guard : IsGuard old s
       let left : context_of now a l ≡ context_of old a l = context_kept old now a context.there first.adds.kept l in
       let right : context_of now outside l ≡ not_free (guard_of old says l) = first.sets l ∙ entry_under not_free unknown (term_of (store_of old)) says l in
       λ i. cut_down (union (left i) (right i))
+
+-- the rest, and then the join with the part before it
+module _ (old now new : Arena) (part rest passed : Entries) (means : ℕ → Term) (context : IsContext old part) (first : Gave old now (refs_in rest) means passed)
+    (second : Adds now new (given_refs (refs_in part ++ refs_in passed)) []) where
+  abbrev both_given : List TypeRef
+  both_given = refs_in part ++ refs_in rest
+
+  rest_adds : Adds old now (given_refs both_given) []
+  rest_adds = adds_wider old now (refs_in rest) both_given [] (λ at inside. Contains-append_right (refs_in part) (refs_in rest) at inside) first.adds
+
+  parts_clean : All (IsClean old now (given_refs both_given)) (refs_in part ++ refs_in passed)
+  parts_clean =
+      All-append (IsClean old now (given_refs both_given)) (refs_in part) (refs_in passed)
+      (given_clean old now both_given (refs_in part) [] rest_adds context.there (λ at inside. Contains-append_left (refs_in part) (refs_in rest) at inside))
+      (all_wider old now (refs_in rest) both_given (refs_in passed) (λ at inside. Contains-append_right (refs_in part) (refs_in rest) at inside) first.clean)
+
+  pub followed_adds : Adds old new (given_refs (refs_in part ++ refs_in rest)) []
+  followed_adds = after_adds old now new both_given (refs_in part ++ refs_in passed) [] [] rest_adds parts_clean second
+
+  pub followed_clean : (made : Entries) → All (IsClean now new (given_refs (refs_in part ++ refs_in passed))) (refs_in made) → All (IsClean old new (given_refs (refs_in part ++ refs_in rest))) (refs_in made)
+  followed_clean made clean = after_clean old now new both_given (refs_in part ++ refs_in passed) (refs_in made) [] rest_adds parts_clean clean
+
+  pub followed_sets : (l : ℕ) → cut_down (union (context_of now part l) (context_of now passed l)) ≡ cut_down (union (context_of old part l) (means l))
+  followed_sets l =
+      let left : context_of now part l ≡ context_of old part l = context_kept old now part context.there first.adds.kept l in
+      λ i. cut_down (union (left i) (first.sets l i))
 
 -- both sides of a condition, and then the meet
 module _ (a0 a1 a2 a3 : Arena) (t f a b left right : Entries) (tg : IsGuard a0 t) (fg : IsGuard a0 f) (ac : IsContext a0 a) (bc : IsContext a0 b)

@@ -5,6 +5,7 @@
 
 mod combining;
 mod context;
+mod following;
 mod kept;
 pub mod laws;
 mod operations;
@@ -14,4 +15,5 @@ mod sides;
 mod steps;
 
 pub use context::Context;
+pub use following::{followed, pass};
 pub use operations::{branch, join, meet, only_for, restrict, strip_all, strip_name};
