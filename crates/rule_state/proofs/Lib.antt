@@ -1,0 +1,5 @@
+pub mod StackFacts
+pub mod SoundFacts
+pub mod WorkFacts
+pub mod SeenFacts
+pub mod OtherFacts

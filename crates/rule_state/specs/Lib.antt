@@ -1,0 +1,4 @@
+pub mod Work
+pub mod Moves
+pub mod Sound
+pub mod Results

@@ -1,0 +1,58 @@
+-- What is at hand while the rules of a module are applied, as plain types and maps.
+use Rattle.std.specs.Prelude.{ℕ, Bool, List, [], map, reverse}
+use Rattle.luau_tree.specs.declared.names.ExprId.{ExprId}
+use Rattle.luau_tree.specs.declared.names.FnId.{FnId}
+use Rattle.type_arena.specs.Term.{Term}
+use Rattle.type_arena.specs.declared.node.TypeRef.{TypeRef}
+use Rattle.type_normal.specs.Kinds.{unknown}
+use Rattle.local_types.specs.Entries.{type_of, entry_of}
+use Rattle.local_types.specs.declared.types.LocalTypes.{LocalTypes}
+use Rattle.report_rules.specs.Seen.{Seen, SeenExpr, SeenBody}
+use Rattle.report_rules.specs.TypeMap.{TypeMap, no_map}
+use Rattle.rule_state.specs.declared.point.Point.{Point}
+use Rattle.rule_state.specs.declared.point.Seen.{Seen as SeenRef}
+use Rattle.rule_state.specs.declared.point.Seen.TheVariants.{Expr, Body}
+use Rattle.rule_state.specs.declared.state.RuleState.{RuleState}
+
+-- what is at hand: a type, and a map of the locals; what was put aside of both, the last first; lists of types and of maps, the
+-- innermost first; what was seen; and the places in that of expressions whose type is still to come, the last first
+pub record Work : Type 0 where
+  pub value : Term
+  pub held : List Term
+  pub lists : List (List Term)
+  pub map : TypeMap
+  pub saved : List TypeMap
+  pub ends : List (List TypeMap)
+  pub seen : List Seen
+  pub pending : List ℕ
+
+-- where nothing is known and nothing was seen
+abbrev pub begun : Work
+begun = record { value = unknown; held = []; lists = []; map = no_map; saved = []; ends = []; seen = []; pending = [] }
+
+-- a point as a map
+abbrev pub map_of : LocalTypes → Point → TypeMap
+map_of types point = record { dead = point.dead; entry = entry_of types point.map }
+
+-- what was seen, with its type
+abbrev pub seen_of : LocalTypes → SeenRef → Seen
+seen_of types (Expr id at live) = SeenExpr id.0 (type_of types at) live
+seen_of types (Body id live) = SeenBody id.0 live
+
+-- what a state stands for
+unfoldable pub work_of : RuleState → Work
+work_of state = record {
+  value = type_of state.types state.value;
+  held = reverse (map (type_of state.types) state.held.items);
+  lists = reverse (map (map (type_of state.types)) (map (λ list. list.items) state.lists.items));
+  map = map_of state.types state.point;
+  saved = reverse (map (map_of state.types) state.saved.items);
+  ends = reverse (map (map (map_of state.types)) (map (λ list. list.items) state.ends.items));
+  seen = map (seen_of state.types) state.seen.items;
+  pending = reverse state.pending.items;
+}
+
+-- what was seen, with another type
+abbrev pub retyped_ref : TypeRef → SeenRef → SeenRef
+retyped_ref at (Expr id old live) = Expr id at live
+retyped_ref at (Body id live) = Body id live

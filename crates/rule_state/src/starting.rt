@@ -1,0 +1,45 @@
+//! The first state.
+ghost use Rattle.std.specs.Prelude.{◌≡◌, IfOk};
+ghost use Rattle.type_arena.specs.Arena.{home_of};
+ghost use Rattle.local_types.specs.Entries.{arena_of};
+ghost use Rattle.rule_state.specs.Sound.{IsConfined};
+ghost use Rattle.rule_state.specs.Work.{work_of, begun};
+
+use crate::point::Point;
+use crate::state::RuleState;
+use local_types::LocalTypes;
+use std::alloc::{AllocError, Global};
+use type_arena::TypeRef;
+use type_fields::Plain;
+
+impl<'a> RuleState<'a> {
+    /// Nothing is known and nothing was seen. The types lead to no home but their own, those to which the arenas below lead and
+    /// those of the types that come from elsewhere.
+    pub fn new(
+        alloc: Global,
+        mut types: LocalTypes<'a>,
+        home: u32,
+        outside: Vec<TypeRef>,
+    ) -> Result<RuleState<'a>, AllocError>
+        requires own { home ≡ home_of (arena_of types) }
+        requires confined { IsConfined types outside.items }
+        ensures { IfOk result (λ state. work_of state ≡ begun) }
+    {
+        let value = types.plain(alloc, Plain::Unknown)?;
+        let map = types.everywhere(value)?;
+        Ok(RuleState {
+            alloc,
+            home,
+            types,
+            outside,
+            value,
+            held: Vec::new(alloc),
+            lists: Vec::new(alloc),
+            point: Point { map, dead: false },
+            saved: Vec::new(alloc),
+            ends: Vec::new(alloc),
+            seen: Vec::new(alloc),
+            pending: Vec::new(alloc),
+        })
+    }
+}
