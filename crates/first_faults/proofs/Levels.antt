@@ -16,6 +16,8 @@ use Rattle.grammar_faults.specs.Fronts.{BeginFrom}
 use Rattle.grammar_faults.proofs.Local.{Tails, SamePlace, Near, Far, IsLate}
 use Rattle.grammar_faults.proofs.LocalModules.{module_local}
 use Rattle.fault_places.specs.Faults.{IsFront, IsAmbiguous, IsTooDeep, CanStandTooDeep, Begins, BeginBefore, too_deep_at}
+use Rattle.other_ends.proofs.Fork.{NextLate, NotAt, Deep}
+use Rattle.other_ends.proofs.ForkModules.{passed_whatever_follows}
 use Rattle.wider_rules.specs.Order.{Has, Ordered}
 use Rattle.wider_rules.proofs.Beside.{Wide, Opposed, Loose, Pair, Tidy, Rel}
 use Rattle.wider_rules.proofs.BesideModules.{module_rel}
@@ -291,3 +293,18 @@ module _ (text : List ℕ) where
         let reads = deep_reads front t (u ∷ rest) early_all late most (omega arith) k.0 (omega arith) most (omega arith) (k.1.1, r.0) r.1 far in
         let deep_tree = read_is_bare (deep_setting t.span.start len most) (deep_bounded t.span.start len most) (suc most) that k.1.1 r.0 reads in
         (most, (rest, k.1.1, k.1.2, subst (λ z. IsBare (too_deep_at t.span.start most) z k.1.1) (sym (append_assoc front (t ∷ []) (u ∷ rest))) deep_tree))
+
+  -- ---- the token before an unexpected one, or before the end
+
+  module _ (front : List Tok) (t : Tok) (behind : List Tok) (order : Ordered (front ++ t ∷ behind)) (next : NextLate behind) where
+    pub not_deep_last : (e : ParseError) → told text (front ++ t ∷ behind) ≡ Err e → Overtakes t.span.start e → (Deep e → ⊥) → (NotAt behind e → ⊥) → CanStandTooDeep t.span.start front t → ⊥
+    not_deep_last e q h flat there k =
+        let rest = k.1.0 in
+        let that = front ++ t ∷ rest in
+        let far : Far (t.span.start + 1) (told text that) =
+        passed_whatever_follows (setting_by (one_line text) len max_level) (λ u m. refl) (max_level + 2) (omega arith) t front behind rest (late_behind front t behind order) k.1.2 next e
+        (late_of t.span.start e h) flat there q in
+        let most = k.0 + (max_level + 2) in
+        let r = bare_is_read (deep_setting t.span.start len k.0) (deep_bounded t.span.start len k.0) (k.0 + 2) (omega arith) that k.1.1 k.1.3 in
+        no_deep_run front t rest (early_before front t behind order) k.1.2 most (omega arith) most (omega arith) far (k.1.1, r.0)
+        (deeper_read t.span.start k.0 most (omega arith) that most (omega arith) (k.1.1, r.0) r.1)

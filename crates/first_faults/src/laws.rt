@@ -30,9 +30,15 @@ pub fn what_is_told_stands_at_its_least_place()
         (at ≡ length text) × AreFronts text [] ts × (HasTree ts → ⊥) }
 {}
 
-/// An ambiguous call that the parser of a text tells is its fault. So is a token that it finds to stand
-/// too deep, where the text goes on with the token behind it.
+/// What the parser of a text tells is its fault: an unexpected token, an unexpected end, an ambiguous
+/// call, and a token that stands too deep, where the text goes on with the token behind it.
 pub fn what_is_told_is_the_fault()
+    ensures unexpected { (text : List ℕ) (ts : List Tok) (at : ℕ) → Ordered ts →
+        module_with (strictly text) max_depth (before ts) ≡ Err (Unexpected at) →
+        IsFault text ts (Unexpected at) }
+    ensures unexpected_end { (text : List ℕ) (ts : List Tok) (at : ℕ) → Ordered ts →
+        module_with (strictly text) max_depth (before ts) ≡ Err (UnexpectedEnd at) →
+        IsFault text ts (UnexpectedEnd at) }
     ensures ambiguous { (text : List ℕ) (ts : List Tok) (at : ℕ) → Ordered ts →
         module_with (strictly text) max_depth (before ts) ≡ Err (AmbiguousCall at) →
         IsFault text ts (AmbiguousCall at) }
