@@ -1,5 +1,5 @@
 -- Tokens that the parser has passed stand at no level above the deepest; one that it finds too deep does.
-use Rattle.std.proofs.Common.{◌≡◌, ℕ, suc, ◌+◌, ◌≤◌, ◌<◌, Bool, true, false, true≢false, not, ◌&&◌, ◌||◌, List, [], ◌∷◌, ◌++◌, length, refl, sym, ◌∙◌, ap, subst, inl, inr, arith, leb-true, le-leb, append_assoc, append-nil}
+use Rattle.std.proofs.Common.{◌≡◌, ℕ, suc, ◌+◌, ◌≤◌, ◌<◌, Bool, true, false, true≢false, not, ◌&&◌, ◌||◌, List, [], ◌∷◌, ◌++◌, length, refl, sym, ◌∙◌, ap, subst, inl, inr, arith, leb-true, le-leb, append_assoc}
 use Rattle.std.proofs.lemmas.Bool.{eqb-true, eq-eqb, lt-ltb, ltb-true, leb-false}
 use Rattle.std.specs.Prelude.{Ok, Err, ◌==◌, nat_le, nat_lt}
 use Rattle.luau_tree.specs.Tree.{Block}
@@ -13,15 +13,15 @@ use Rattle.luau_grammar.specs.ReadModules.{module_with}
 use Rattle.luau_grammar.proofs.Agreement.{Bounded}
 use Rattle.luau_grammar.proofs.Families.{read_is_bare, bare_is_read}
 use Rattle.grammar_faults.specs.Fronts.{BeginFrom}
-use Rattle.grammar_faults.proofs.Local.{Tails, SamePlace, Near, Far, IsLate}
+use Rattle.grammar_faults.proofs.Local.{Tails, Near, Far, IsLate}
 use Rattle.grammar_faults.proofs.LocalModules.{module_local}
-use Rattle.fault_places.specs.Faults.{IsFront, IsAmbiguous, IsTooDeep, CanStandTooDeep, Begins, BeginBefore, too_deep_at}
+use Rattle.fault_places.specs.Faults.{IsFront, CanStandTooDeep, BeginBefore, too_deep_at}
 use Rattle.other_ends.proofs.Fork.{NextLate, NotAt, Deep}
 use Rattle.other_ends.proofs.ForkModules.{passed_whatever_follows}
 use Rattle.wider_rules.specs.Order.{Has, Ordered}
 use Rattle.wider_rules.proofs.Beside.{Wide, Opposed, Loose, Pair, Tidy, Rel}
 use Rattle.wider_rules.proofs.BesideModules.{module_rel}
-use Rattle.wider_rules.proofs.Runs.{Test, rules_by, setting_by, bounded_by, anywhere, run, sum_of, tidy_above, among_all, ok_same}
+use Rattle.wider_rules.proofs.Runs.{rules_by, setting_by, bounded_by, anywhere, sum_of, tidy_above, among_all, ok_same}
 use Rattle.wider_rules.proofs.Settled.{far_less, begin_less}
 use Rattle.first_faults.proofs.Splits.{has_behind, late_behind, early_before}
 use Rattle.first_faults.proofs.Told.{one_line, told, Overtakes}

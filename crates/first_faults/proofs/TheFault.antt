@@ -1,6 +1,6 @@
 -- What the parser of a text tells is its fault.
 use Rattle.std.proofs.Common.{◌≡◌, ℕ, ◌+◌, ◌-◌, ◌≤◌, ◌<◌, List, [], ◌∷◌, ◌++◌, refl, sym, ◌∙◌, ap, subst, inl, inr, arith, append_assoc, append-nil, Option}
-use Rattle.std.specs.Prelude.{Ok, Err, drop, length}
+use Rattle.std.specs.Prelude.{Err, drop, length}
 use Rattle.luau_lex.specs.Tokens.{Tok}
 use Rattle.luau_lex.specs.declared.token.LexError.{LexError}
 use Rattle.luau_lex.specs.Places.{StandInOrder, first_line_len}

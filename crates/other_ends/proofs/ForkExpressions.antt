@@ -1,5 +1,5 @@
 -- The parsers of expressions and function bodies depend on what they take.
-use Rattle.std.proofs.Common.{ℕ, ◌||◌, sym, subst, if◌then◌else◌, true, false, List, [], ◌∷◌, ◌++◌, refl, Option, None, is_some, ◌≡◌, Bool, ◌&&◌, ap}
+use Rattle.std.proofs.Common.{ℕ, ◌||◌, sym, subst, if◌then◌else◌, true, false, List, [], ◌∷◌, ◌++◌, refl, Option, None, is_some, ◌≡◌}
 use Rattle.luau_tree.specs.declared.position.Span.{Span}
 use Rattle.luau_tree.specs.Tree.{Expr, Exprs, ExprKind, Item}
 use Rattle.luau_tree.specs.Tree as tree
@@ -7,14 +7,14 @@ use Rattle.luau_tree.specs.View.{exprs, binds, items, choices}
 use Rattle.luau_grammar.specs.declared.symbol.Symbol.{Symbol}
 use Rattle.luau_grammar.specs.declared.symbol.Symbol.TheVariants as s
 use Rattle.luau_grammar.specs.Symbols.{same, symbol_of}
-use Rattle.luau_grammar.specs.Places.{Place, first_symbol, symbol, symbol_behind, sees, sees_behind, start_of}
+use Rattle.luau_grammar.specs.Places.{first_symbol, symbol, symbol_behind, sees, sees_behind, start_of}
 use Rattle.luau_grammar.specs.Expressions.{begins_suffix, begins_field, sees_pack}
 use Rattle.luau_grammar.specs.Reading as read
 use Rattle.luau_grammar.specs.Reading.{Setting, Parser, Readers, ◌>>=◌, pure, start}
 use Rattle.luau_grammar.specs.ReadPhrases as phrases
 use Rattle.luau_grammar.specs.ReadExpressions as code
 use Rattle.luau_grammar.specs.ReadExpressions.{Parameters, Interpolated, goes_parameters, no_parameters, is_open, with_self}
-use Rattle.other_ends.proofs.Fork.{Fork, Forked, Peeks, Peeks2, Names, Taken, Far, IsDeep, BeyondOf, here, both, choose, choose2, least, done, at_start, at_here, at_span, to_level, peeks_sees, peeks_const, peeks_and, peeks_or, peeks_symbol, peeks_start}
+use Rattle.other_ends.proofs.Fork.{Fork, Forked, Peeks, Peeks2, Names, Far, IsDeep, BeyondOf, here, both, choose, choose2, least, done, at_start, at_here, at_span, to_level, peeks_sees, peeks_const, peeks_and, peeks_or, peeks_symbol, peeks_start}
 use Rattle.other_ends.proofs.ForkCases.{by_symbol}
 use Rattle.other_ends.proofs.ForkNames.{two_name, behind_sees, name_names, name_beyond, names_then, names_start, names_else}
 use Rattle.other_ends.proofs.ForkTokens.{refuses, any, token, a_name, a_string, raises, opens}

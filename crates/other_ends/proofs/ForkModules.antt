@@ -1,5 +1,5 @@
 -- The parser of a module depends on what it takes, so a fault at a token is the fault of each list with the same prefix.
-use Rattle.std.proofs.Common.{◌≡◌, ℕ, zero, suc, ◌+◌, ◌≤◌, ◌<◌, List, [], ◌∷◌, ◌++◌, refl, sym, ◌∙◌, subst, inl, inr, Ok, Err, arith, leb-true, false, true, append_assoc}
+use Rattle.std.proofs.Common.{◌≡◌, ℕ, zero, suc, ◌+◌, ◌≤◌, ◌<◌, List, [], ◌∷◌, ◌++◌, refl, sym, ◌∙◌, subst, inl, inr, Ok, Err, arith, leb-true, false, append_assoc}
 use Rattle.std.specs.Prelude.{nat_le}
 use Rattle.luau_tree.specs.Tree.{Block}
 use Rattle.luau_tree.specs.Tree as tree

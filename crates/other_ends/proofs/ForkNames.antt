@@ -13,7 +13,7 @@ use Rattle.luau_grammar.specs.Statements.{second_bytes}
 use Rattle.luau_grammar.specs.Reading as read
 use Rattle.luau_grammar.specs.Reading.{Setting, Parser, Outcome, ◌>>=◌, and_then, pure, start, next, expect}
 use Rattle.grammar_faults.specs.Fronts.{BeginFrom}
-use Rattle.other_ends.proofs.Fork.{Fork, NextLate, SamePlace, Near, Far, Forked, Peeks, Peeks2, Names, Link, Gripped, IsDeep, BeyondOf, Shorter, here, deep_then, deep_if, gripped_then, gripped_if, beyond_then, done}
+use Rattle.other_ends.proofs.Fork.{Fork, NextLate, Near, Far, Forked, Peeks, Peeks2, Names, Link, Gripped, IsDeep, BeyondOf, Shorter, here, deep_then, deep_if, gripped_then, gripped_if, beyond_then, done}
 
 -- ---- tests
 

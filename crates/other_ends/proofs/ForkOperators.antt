@@ -11,7 +11,7 @@ use Rattle.luau_lex.specs.Tokens.{Tok}
 use Rattle.luau_grammar.specs.Operators.{binary_of, unary_of, unary_tightness}
 use Rattle.luau_grammar.specs.Reading.{Setting, Parser, Outcome, Readers, ◌>>=◌, pure, span_from, and_then, refuse, next, raise, repeats}
 use Rattle.luau_grammar.specs.ReadExpressions as code
-use Rattle.other_ends.proofs.Fork.{Fork, Near, Shorter, Forked, Peeks, Names, Taken, here, both, least, at_start, at_span, done, peeks_symbol, peeks_of, Far, IsDeep}
+use Rattle.other_ends.proofs.Fork.{Fork, Near, Shorter, Forked, Peeks, Names, here, both, least, at_start, at_span, done, peeks_symbol, peeks_of, Far, IsDeep}
 use Rattle.other_ends.proofs.ForkCases.{by_symbol}
 use Rattle.other_ends.proofs.ForkNames.{name_is, names_then, names_start}
 use Rattle.other_ends.proofs.ForkTokens.{refuses, any, raises}

@@ -1,5 +1,5 @@
 -- The parsers of types depend on what they take.
-use Rattle.std.proofs.Common.{◌≡◌, ℕ, ◌+◌, suc, length, Bool, true, false, true≢false, not, ◌||◌, ◌&&◌, sym, ◌∙◌, ap, ap₂, subst, inl, inr, if◌then◌else◌, List, [], ◌∷◌, ◌++◌, refl, codes, Option, Some, None, is_some, bytes_eq}
+use Rattle.std.proofs.Common.{◌≡◌, ℕ, length, Bool, true, false, true≢false, not, ◌||◌, ◌&&◌, sym, ◌∙◌, ap, ap₂, subst, if◌then◌else◌, List, [], ◌∷◌, ◌++◌, refl, codes, Option, Some, None, is_some}
 use Rattle.std.specs.Prelude.{Ok, Err}
 use Rattle.luau_lex.specs.Tokens.{Tok}
 use Rattle.luau_tree.specs.declared.names.Access.{Access}
@@ -21,7 +21,7 @@ use Rattle.luau_grammar.specs.Reading.{Setting, Parser, Outcome, Readers, ◌>>=
 use Rattle.luau_grammar.specs.ReadPhrases as phrases
 use Rattle.luau_grammar.specs.ReadTypes as code
 use Rattle.luau_grammar.specs.ReadTypes.{Members, Braced, goes_braced, goes_members, goes_marks, goes_options}
-use Rattle.other_ends.proofs.Fork.{Fork, Forked, Peeks, Peeks2, Names, Link, Taken, Gripped, IsDeep, Far, BeyondOf, perhaps, here, gripped_then, deep_then, beyond_then, both, choose, choose2, either_name, least, done, given, at_start, at_last, at_here, at_span, to_level, peeks_sees, peeks_const, peeks_of, peeks_and, peeks_or, peeks_symbol, peeks_start}
+use Rattle.other_ends.proofs.Fork.{Fork, Forked, Peeks, Peeks2, Names, Link, IsDeep, Far, BeyondOf, perhaps, here, gripped_then, deep_then, beyond_then, both, choose, choose2, either_name, least, done, given, at_start, at_last, at_here, at_span, to_level, peeks_sees, peeks_const, peeks_of, peeks_and, peeks_or, peeks_symbol, peeks_start}
 use Rattle.other_ends.proofs.ForkCases.{by_symbol}
 use Rattle.other_ends.proofs.ForkNames.{two_of, two_or, two_name, two_word, behind_sees, behind_or, only_name, name_is, then_if, name_names, next_names, expect_names, name_beyond, next_beyond, expect_beyond, names_then, names_start, names_if, names_else, forked_by}
 use Rattle.other_ends.proofs.ForkTokens.{refuses, any, token, eaten, a_name, a_string, raises, phrased, phrase_names}
