@@ -27,14 +27,14 @@ abbrev pub one_line : List ℕ → Test
 one_line text l t = on_one_line text l t.span.start
 
 -- on one line at one token, and anywhere else
-abbrev lined : List ℕ → ℕ → Test
+abbrev pub lined : List ℕ → ℕ → Test
 lined text at l t = not (t.span.start == at) || on_one_line text l at
 
 only : (b x : Bool) → (b ≡ true → x ≡ true) → (not b || x) ≡ true
 only true x h = h refl
 only false x h = refl
 
-lined_calls : (text : List ℕ) (at l : ℕ) (t : Tok) → one_line text l t ≡ true → lined text at l t ≡ true
+pub lined_calls : (text : List ℕ) (at l : ℕ) (t : Tok) → one_line text l t ≡ true → lined text at l t ≡ true
 lined_calls text at l t h = only (t.span.start == at) (on_one_line text l at) (λ e. subst (λ z. on_one_line text l z ≡ true) (eqb-true t.span.start at e) h)
 
 lined_free : (text : List ℕ) (at l : ℕ) (t : Tok) → (t.span.start ≡ at → ⊥) → lined text at l t ≡ true

@@ -4,7 +4,9 @@ ghost use Rattle.luau_lex.specs.declared.token.LexError.{LexError};
 ghost use Rattle.luau_lex.specs.Lexed.{Lexed};
 ghost use Rattle.luau_lex.specs.Tokens.{Tok};
 ghost use Rattle.luau_grammar.specs.declared.error.ParseError.TheVariants.{Unexpected, UnexpectedEnd, AmbiguousCall, Nesting};
-ghost use Rattle.luau_grammar.specs.Modules.{before};
+ghost use Rattle.luau_grammar.specs.declared.error.ParseError.{ParseError};
+ghost use Rattle.luau_grammar.specs.Modules.{IsBare, before, strict};
+ghost use Rattle.luau_tree.specs.Tree.{Block};
 ghost use Rattle.luau_grammar.specs.Reading.{strictly};
 ghost use Rattle.luau_grammar.specs.ReadModules.{module_with, max_depth};
 ghost use Rattle.wider_rules.specs.Order.{Ordered};
@@ -46,6 +48,12 @@ pub fn what_is_told_is_the_fault()
         Ordered (front ++ t ∷ u ∷ behind) →
         module_with (strictly text) max_depth (before (front ++ t ∷ u ∷ behind)) ≡ Err (Nesting t.span.start) →
         IsFront (front ++ t ∷ []) u → IsFault text (front ++ t ∷ u ∷ behind) (Nesting t.span.start) }
+{}
+
+/// Tokens of a text with a tree have no fault.
+pub fn a_text_with_a_tree_has_no_fault()
+    ensures { (text : List ℕ) (ts : List Tok) (b : Block) (e : ParseError) → Ordered ts →
+        IsBare (strict text) ts b → IsFault text ts e → ⊥ }
 {}
 
 /// The tokens of a text begin one behind the other.
