@@ -1,5 +1,5 @@
 -- The parsers of types depend on what they take.
-use Rattle.std.proofs.Common.{◌≡◌, ℕ, length, Bool, true, false, true≢false, not, ◌||◌, ◌&&◌, sym, ◌∙◌, ap, ap₂, subst, if◌then◌else◌, List, [], ◌∷◌, ◌++◌, refl, codes, Option, Some, None, is_some}
+use Rattle.std.proofs.Common.{◌≡◌, ℕ, Bool, true, false, ◌||◌, ◌&&◌, sym, ◌∙◌, ap, ap₂, subst, if◌then◌else◌, List, [], ◌∷◌, ◌++◌, refl, codes, Option, Some, None}
 use Rattle.std.specs.Prelude.{Ok, Err}
 use Rattle.luau_lex.specs.Tokens.{Tok}
 use Rattle.luau_tree.specs.declared.names.Access.{Access}
@@ -12,8 +12,7 @@ use Rattle.luau_grammar.specs.declared.symbol.Symbol.TheVariants as s
 use Rattle.luau_grammar.specs.Symbols.{same, symbol_of}
 use Rattle.luau_grammar.specs.Places.{Place, first_symbol, symbol, symbol_behind, sees, sees_behind, sees_word, start_of}
 use Rattle.luau_grammar.specs.Phrases.{Listed, in_parens}
-use Rattle.luau_grammar.specs.Lists.{sees_separator}
-use Rattle.luau_grammar.specs.Types.{sees_access, begins_property, sees_typeof, begins_tail, is_type_front, pack_of, begins_named, begin_of, goes_on}
+use Rattle.luau_grammar.specs.Types.{sees_access, begins_property, sees_typeof, begins_tail, pack_of, begins_named, begin_of}
 use Rattle.luau_grammar.specs.Expressions as expressions
 use Rattle.luau_grammar.specs.Statements as statements
 use Rattle.luau_grammar.specs.Reading as read
@@ -21,37 +20,15 @@ use Rattle.luau_grammar.specs.Reading.{Setting, Parser, Outcome, Readers, ◌>>=
 use Rattle.luau_grammar.specs.ReadPhrases as phrases
 use Rattle.luau_grammar.specs.ReadTypes as code
 use Rattle.luau_grammar.specs.ReadTypes.{Members, Braced, goes_braced, goes_members, goes_marks, goes_options}
-use Rattle.other_ends.proofs.Fork.{Fork, Forked, Peeks, Peeks2, Names, Link, IsDeep, Far, BeyondOf, perhaps, here, gripped_then, deep_then, beyond_then, both, choose, choose2, either_name, least, done, given, at_start, at_last, at_here, at_span, to_level, peeks_sees, peeks_const, peeks_of, peeks_and, peeks_or, peeks_symbol, peeks_start}
+use Rattle.other_ends.proofs.Fork.{Fork, Forked, Peeks, Names, Link, IsDeep, Far, BeyondOf, perhaps, here, beyond_then, both, choose, choose2, either_name, least, done, given, at_start, at_last, at_here, at_span, to_level, peeks_sees, peeks_const, peeks_of, peeks_and, peeks_or, peeks_symbol, peeks_start}
 use Rattle.other_ends.proofs.ForkCases.{by_symbol}
-use Rattle.other_ends.proofs.ForkNames.{two_of, two_or, two_name, two_word, behind_sees, behind_or, only_name, name_is, then_if, name_names, next_names, expect_names, name_beyond, next_beyond, expect_beyond, names_then, names_start, names_if, names_else, forked_by}
+use Rattle.other_ends.proofs.ForkNames.{two_of, two_or, only_name, name_is, then_if, name_names, next_names, expect_names, name_beyond, next_beyond, expect_beyond, names_then, names_start, names_if, names_else, forked_by}
 use Rattle.other_ends.proofs.ForkTokens.{refuses, any, token, eaten, a_name, a_string, raises, phrased, phrase_names}
-use Rattle.other_ends.proofs.ForkSteps.{steps, steps_far, in_list}
-
-abbrev no_braced : {A : Type 0} → Braced A
-no_braced = record { items = []; open_ended = true }
+use Rattle.other_ends.proofs.ForkSteps.{steps, in_list}
+pub use Rattle.other_ends.proofs.ForkBraces.{no_braced, right_of, left_of, left_or, right_or, pure_case, peeks_goes_on, peeks_front, two_named, two_tail, two_access, two_property, two_typeof, peeks_separator, peeks_braced, peeks_members, separator_forked, one_braced_forked, braced_forked, one_braced_names, braced_names, braced_beyond}
 
 abbrev at_rest : List Tok → ℕ → ℕ → Place
 at_rest ts l m = record { ahead = ts; last = l; level = m }
-
-pub right_of : (a b : Bool) → (a && b) ≡ true → b ≡ true
-right_of true b h = h
-right_of false b h = absurd (true≢false (sym h))
-
-left_of : (a b : Bool) → (a && b) ≡ true → a ≡ true
-left_of true b h = refl
-left_of false b h = absurd (true≢false (sym h))
-
-left_or : (a b : Bool) → b ≡ false → (a || b) ≡ true → a ≡ true
-left_or true b h k = refl
-left_or false b h k = absurd (true≢false (sym k ∙ h))
-
-right_or : (a b : Bool) → a ≡ false → (a || b) ≡ true → b ≡ true
-right_or true b h k = absurd (true≢false h)
-right_or false b h k = k
-
-pure_case : {A : Type 0} (o : Outcome A) → and_then o (λ t. pure t) ≡ o
-pure_case (Ok x) = refl
-pure_case (Err e) = refl
 
 -- the parsers of phrases that hold one another depend on what they take
 pub record ForkReaders (set : Setting) (w : Fork) (r : Readers) : Type 0 where
@@ -62,84 +39,6 @@ pub record ForkReaders (set : Setting) (w : Fork) (r : Readers) : Type 0 where
   pub block : Forked w 0 (r.block)
   pub exp_named : Names false w (r.exp)
   pub typ_named : Names false w (r.typ None)
-
-module _ {w : Fork} where
-  peeks_goes_on : Peeks w goes_on
-  peeks_goes_on = peeks_or (peeks_sees s.Question) (peeks_or (peeks_sees s.Pipe) (peeks_sees s.Ampersand))
-
-  peeks_front : (l : Listed) → Peeks w (is_type_front l)
-  peeks_front l = peeks_or (peeks_sees s.Arrow) (peeks_and (peeks_const (is_some (in_parens l))) peeks_goes_on)
-
-  pub two_named : Peeks2 w begins_named
-  two_named = two_name (sees_behind s.Colon) (behind_sees s.Colon)
-
-  pub two_tail : Peeks2 w begins_tail
-  two_tail = two_or (two_of (peeks_sees s.Dots)) (two_name (sees_behind s.Dots) (behind_sees s.Dots))
-
-  two_access : (word : List ℕ) → Peeks2 w (sees_access word)
-  two_access word = two_word word (λ p. sees_behind s.Name p || sees_behind s.LeftBracket p) (behind_or (behind_sees s.Name) (behind_sees s.LeftBracket))
-
-  two_property : Peeks2 w begins_property
-  two_property =
-      two_or (two_or (two_of (peeks_sees s.LeftBracket)) (two_name (sees_behind s.Colon) (behind_sees s.Colon)))
-      (two_or (two_access (codes "read")) (two_access (codes "write")))
-
-  two_typeof : Peeks2 w sees_typeof
-  two_typeof = two_word (codes "typeof") (sees_behind s.LeftParen) (behind_sees s.LeftParen)
-
-  peeks_separator : Peeks w sees_separator
-  peeks_separator = peeks_or (peeks_sees s.Comma) (peeks_sees s.Semicolon)
-
-  peeks_braced : {A : Type 0} (found : Braced A) → Peeks w (goes_braced found)
-  peeks_braced found = peeks_and (peeks_const found.open_ended) (peeks_of not (peeks_sees s.RightBrace))
-
-  peeks_members : (found : Members) → Peeks w (goes_members found)
-  peeks_members found = peeks_and (peeks_const (not found.tailed)) (peeks_sees s.Comma)
-
-module _ (set : Setting) {w : Fork} where
-  pub separator_forked : Forked w 0 (code.separator set)
-  unfolding code.separator
-  separator_forked = choose peeks_separator (least 0 refl (both (any set) (λ _. done true))) (done false)
-
-  pub one_braced_forked : {A : Type 0} {item : Parser A} → Forked w 1 item → (found : Braced A) → Forked w 1 (code.one_braced set item found)
-  one_braced_forked h found =
-      least 1 refl (both h (λ x. both separator_forked (λ more. done (record { items = found.items ++ x ∷ []; open_ended = more }))))
-
-  pub braced_forked : {A : Type 0} {item : Parser A} → Forked w 1 item → Forked w 0 (code.braced set item)
-  unfolding code.braced
-  braced_forked {A = A} {item = item} h =
-      steps set goes_braced (code.one_braced set item) peeks_braced (one_braced_forked h) (record { items = []; open_ended = true })
-
-  one_braced_names : {A : Type 0} {item : Parser A} → Names true w item → Names true w (code.one_braced set item no_braced)
-  one_braced_names k = names_then k (λ x. both separator_forked (λ more. done (record { items = no_braced.items ++ x ∷ []; open_ended = more })))
-
-  pub braced_names : {A : Type 0} {item : Parser A} → Forked w 1 item → Names true w item → Names true w (code.braced set item)
-  unfolding code.braced read.repeats sees symbol same
-  braced_names {A = A} {item = item} h k = record {
-    taken = λ e ts l m b z.
-        let p = here w.token ts l m in
-        subst (λ c. Far w.bound (if not c then and_then (code.one_braced set item no_braced p) (read.repeats set goes_braced (code.one_braced set item) (length ts)) else Ok (no_braced, p)))
-        (sym (only_name (symbol_of w.token) s.RightBrace e refl))
-        (gripped_then true w.bound (read.repeats set goes_braced (code.one_braced set item) (length ts)) (code.one_braced set item no_braced p) ((one_braced_names k).taken e ts l m b z)
-        (λ x q c. steps_far set w goes_braced (code.one_braced set item) (one_braced_forked h) (length ts) x w.bound q c));
-    deep = λ e ts l m b z.
-        let p = here w.token ts l m in
-        subst (λ c. IsDeep (if not c then and_then (code.one_braced set item no_braced p) (read.repeats set goes_braced (code.one_braced set item) (length ts)) else Ok (no_braced, p)))
-        (sym (only_name (symbol_of w.token) s.RightBrace e refl))
-        (deep_then (read.repeats set goes_braced (code.one_braced set item) (length ts)) (code.one_braced set item no_braced p) ((one_braced_names k).deep e ts l m b z));
-  }
-
-  -- what begins with an item that goes beyond the token behind
-  pub braced_beyond : {A : Type 0} {item : Parser A} → Forked w 1 item → same (symbol_of w.token) s.Name ≡ true → (l m : ℕ) → BeyondOf w.one (item (here w.token w.one l m)) → BeyondOf w.one (code.braced set item (here w.token w.one l m))
-  unfolding code.braced read.repeats sees symbol same
-  braced_beyond {A = A} {item = item} h e l m b =
-      let p = here w.token w.one l m in
-      subst (λ c. BeyondOf w.one (if not c then and_then (code.one_braced set item no_braced p) (read.repeats set goes_braced (code.one_braced set item) (length w.one)) else Ok (no_braced, p)))
-      (sym (only_name (symbol_of w.token) s.RightBrace e refl))
-      (beyond_then w.one (read.repeats set goes_braced (code.one_braced set item) (length w.one)) (code.one_braced set item no_braced p)
-      (beyond_then w.one (λ x. code.separator set >>= (λ more. pure (record { items = no_braced.items ++ x ∷ []; open_ended = more }))) (item p) b
-      (λ x. (both separator_forked (λ more. done (record { items = no_braced.items ++ x ∷ []; open_ended = more }))).one))
-      (λ x z q c. steps_far set w goes_braced (code.one_braced set item) (one_braced_forked h) (length w.one) x z q c))
 
 module _ (set : Setting) (inner : Readers) (w : Fork) (held : ForkReaders set w inner) where
   pub exp_forked : Forked w 1 (phrases.expression set inner)
