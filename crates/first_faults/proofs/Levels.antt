@@ -1,5 +1,5 @@
 -- Tokens that the parser has passed stand at no level above the deepest; one that it finds too deep does.
-use Rattle.std.proofs.Common.{◌≡◌, ℕ, suc, ◌+◌, ◌≤◌, ◌<◌, Bool, true, false, true≢false, not, ◌&&◌, ◌||◌, List, [], ◌∷◌, ◌++◌, length, refl, sym, ◌∙◌, ap, subst, inl, inr, arith, leb-true, le-leb, append_assoc, append-nil}
+use Rattle.std.proofs.Common.{◌≡◌, ℕ, suc, ◌+◌, ◌≤◌, ◌<◌, Bool, true, false, true≢false, not, ◌&&◌, ◌||◌, List, [], ◌∷◌, ◌++◌, length, refl, sym, ◌∙◌, ap, subst, inl, inr, arith, leb-true, le-leb, append_assoc}
 use Rattle.std.proofs.lemmas.Bool.{eqb-true, eq-eqb, lt-ltb, ltb-true, leb-false}
 use Rattle.std.specs.Prelude.{Ok, Err, ◌==◌, nat_le, nat_lt}
 use Rattle.luau_tree.specs.Tree.{Block}
@@ -13,13 +13,16 @@ use Rattle.luau_grammar.specs.ReadModules.{module_with}
 use Rattle.luau_grammar.proofs.Agreement.{Bounded}
 use Rattle.luau_grammar.proofs.Families.{read_is_bare, bare_is_read}
 use Rattle.grammar_faults.specs.Fronts.{BeginFrom}
-use Rattle.grammar_faults.proofs.Local.{Tails, SamePlace, Near, Far, IsLate}
+use Rattle.grammar_faults.proofs.Local.{Tails, Near, Far, IsLate}
 use Rattle.grammar_faults.proofs.LocalModules.{module_local}
-use Rattle.fault_places.specs.Faults.{IsFront, IsAmbiguous, IsTooDeep, CanStandTooDeep, Begins, BeginBefore, too_deep_at}
+use Rattle.fault_places.specs.Faults.{IsFront, CanStandTooDeep, BeginBefore, too_deep_at}
+use Rattle.other_ends.proofs.Fork as fork
+use Rattle.other_ends.proofs.Fork.{Fork, NextLate, NotAt, Deep}
+use Rattle.other_ends.proofs.ForkModules.{module_forked, passed_whatever_follows}
 use Rattle.wider_rules.specs.Order.{Has, Ordered}
 use Rattle.wider_rules.proofs.Beside.{Wide, Opposed, Loose, Pair, Tidy, Rel}
 use Rattle.wider_rules.proofs.BesideModules.{module_rel}
-use Rattle.wider_rules.proofs.Runs.{Test, rules_by, setting_by, bounded_by, anywhere, run, sum_of, tidy_above, among_all, ok_same}
+use Rattle.wider_rules.proofs.Runs.{rules_by, setting_by, bounded_by, anywhere, sum_of, tidy_above, among_all, ok_same}
 use Rattle.wider_rules.proofs.Settled.{far_less, begin_less}
 use Rattle.first_faults.proofs.Splits.{has_behind, late_behind, early_before}
 use Rattle.first_faults.proofs.Told.{one_line, told, Overtakes}
@@ -101,6 +104,12 @@ late_of n NoMemory h = absurd h
 same_error : (o : Outcome Block) (d e : ParseError) → o ≡ Err d → o ≡ Err e → d ≡ e
 same_error o d e h k = cc
 
+same_read : (o : Outcome Block) (y x : Block × Place) → o ≡ Ok y → o ≡ Ok x → y ≡ x
+same_read o y x h k = cc
+
+never_empty : (t : Tok) (ts : List Tok) → t ∷ ts ≡ [] → ⊥
+never_empty t ts e = absurd (cc)
+
 module _ (text : List ℕ) where
   abbrev len : ℕ
   len = length text
@@ -151,6 +160,15 @@ module _ (text : List ℕ) where
 
     pub that_stops : told text this ≡ Err (Nesting t.span.start) → t.span.start + 1 ≤ u.span.start → told text that ≡ Err (Nesting t.span.start)
     that_stops q b = stopped (told text this) (told text that) (near_by front) q b
+
+    read_on : (o r : Outcome Block) (x : Block × Place) → Near tails o r → o ≡ Ok x → x.1.ahead ≡ [] → t.span.start + 1 ≤ u.span.start → Far (t.span.start + 1) r
+    read_on (Err d) r x h q e b = absurd (cc)
+    read_on (Ok y) (Ok z) x (inl h) q e b = absurd (never_empty (h.1.token) (h.1.between ++ u ∷ us) (sym h.1.one ∙ (ap (λ (v : Block × Place). v.1.ahead) (same_read (Ok y) y x refl q) ∙ e)))
+    read_on (Ok y) (Err c) x (inl h) q e b = absurd h
+    read_on (Ok y) r x (inr h) q e b = far_less (t.span.start + 1) u.span.start r b h.1
+
+    pub that_reads : (x : Block × Place) → told text this ≡ Ok x → x.1.ahead ≡ [] → t.span.start + 1 ≤ u.span.start → Far (t.span.start + 1) (told text that)
+    that_reads x q e b = read_on (told text this) (told text that) x (near_by front) q e b
 
   -- ---- the first parser, and one that takes a token at greater levels alone
 
@@ -275,6 +293,20 @@ module _ (text : List ℕ) where
         no_deep_run front t (u ∷ rest) early_all (b, begin_less (t.span.start + 1) (u.span.start + 1) rest (omega arith) k.1.2) most (omega arith) most (omega arith) far (k.1.1, r.0)
         (deeper_read t.span.start k.0 most (omega arith) that most (omega arith) (k.1.1, r.0) r.1)
 
+    -- the same of tokens with a tree
+    pub not_deep_read : (x : Block × Place) → told text (front ++ t ∷ u ∷ us) ≡ Ok x → x.1.ahead ≡ [] → BeginFrom u.span.start us → CanStandTooDeep t.span.start (front ++ t ∷ []) u → ⊥
+    not_deep_read x q h one k =
+        let rest = k.1.0 in
+        let other : BeginFrom u.span.start rest = begin_less u.span.start (u.span.start + 1) rest (omega arith) k.1.2 in
+        let b : t.span.start + 1 ≤ u.span.start = late_all.0 in
+        let that = front ++ t ∷ u ∷ rest in
+        let far = that_reads front t u us rest one other x q h b in
+        let most = k.0 + (max_level + 2) in
+        let tree = subst (λ z. IsBare (too_deep_at t.span.start k.0) z k.1.1) (append_assoc front (t ∷ []) (u ∷ rest)) k.1.3 in
+        let r = bare_is_read (deep_setting t.span.start len k.0) (deep_bounded t.span.start len k.0) (k.0 + 2) (omega arith) that k.1.1 tree in
+        no_deep_run front t (u ∷ rest) early_all (b, begin_less (t.span.start + 1) (u.span.start + 1) rest (omega arith) k.1.2) most (omega arith) most (omega arith) far (k.1.1, r.0)
+        (deeper_read t.span.start k.0 most (omega arith) that most (omega arith) (k.1.1, r.0) r.1)
+
     -- what the parser finds too deep stands so, where the token behind it goes on
     pub can_stand : told text (front ++ t ∷ u ∷ us) ≡ Err (Nesting t.span.start) → BeginFrom u.span.start us → IsFront (front ++ t ∷ []) u → CanStandTooDeep t.span.start (front ++ t ∷ []) u
     can_stand q one k =
@@ -291,3 +323,50 @@ module _ (text : List ℕ) where
         let reads = deep_reads front t (u ∷ rest) early_all late most (omega arith) k.0 (omega arith) most (omega arith) (k.1.1, r.0) r.1 far in
         let deep_tree = read_is_bare (deep_setting t.span.start len most) (deep_bounded t.span.start len most) (suc most) that k.1.1 r.0 reads in
         (most, (rest, k.1.1, k.1.2, subst (λ z. IsBare (too_deep_at t.span.start most) z k.1.1) (sym (append_assoc front (t ∷ []) (u ∷ rest))) deep_tree))
+
+  -- ---- the token before an unexpected one, or before the end
+
+  module _ (front : List Tok) (t : Tok) (behind : List Tok) (order : Ordered (front ++ t ∷ behind)) (next : NextLate behind) where
+    pub not_deep_last : (e : ParseError) → told text (front ++ t ∷ behind) ≡ Err e → Overtakes t.span.start e → (Deep e → ⊥) → (NotAt behind e → ⊥) → CanStandTooDeep t.span.start front t → ⊥
+    not_deep_last e q h flat there k =
+        let rest = k.1.0 in
+        let that = front ++ t ∷ rest in
+        let far : Far (t.span.start + 1) (told text that) =
+        passed_whatever_follows (setting_by (one_line text) len max_level) (λ u m. refl) (max_level + 2) (omega arith) t front behind rest (late_behind front t behind order) k.1.2 next e
+        (late_of t.span.start e h) flat there q in
+        let most = k.0 + (max_level + 2) in
+        let r = bare_is_read (deep_setting t.span.start len k.0) (deep_bounded t.span.start len k.0) (k.0 + 2) (omega arith) that k.1.1 k.1.3 in
+        no_deep_run front t rest (early_before front t behind order) k.1.2 most (omega arith) most (omega arith) far (k.1.1, r.0)
+        (deeper_read t.span.start k.0 most (omega arith) that most (omega arith) (k.1.1, r.0) r.1)
+
+  -- ---- the last token of tokens with a tree
+
+  module _ (front : List Tok) (t : Tok) (order : Ordered (front ++ t ∷ [])) where
+    abbrev last_fork : (rest : List Tok) → BeginFrom (t.span.start + 1) rest → Fork
+    last_fork rest late = record { bound = t.span.start + 1; stands = λ m. nat_le m max_level; token = t; one = []; other = rest; one_late = tt; other_late = late; one_next = tt }
+
+    ends_with : (us : List Tok) → us ++ t ∷ [] ≡ [] → ⊥
+    ends_with [] e = never_empty t [] e
+    ends_with (v ∷ vs) e = never_empty v (vs ++ t ∷ []) e
+
+    last_far : (rest : List Tok) (late : BeginFrom (t.span.start + 1) rest) (o r : Outcome Block) (x : Block × Place) → fork.Near (last_fork rest late) o r → o ≡ Ok x → x.1.ahead ≡ [] → Far (t.span.start + 1) r
+    last_far rest late (Err d) r x h q e = absurd (cc)
+    last_far rest late (Ok y) (Ok z) x (inl h) q e = absurd (ends_with (h.1.between) (sym h.1.one ∙ (ap (λ (v : Block × Place). v.1.ahead) (same_read (Ok y) y x refl q) ∙ e)))
+    last_far rest late (Ok y) (Err c) x (inl h) q e = absurd h
+    last_far rest late (Ok y) r x (inr (inl h)) q e = h.1
+    last_far rest late (Ok y) r x (inr (inr (inl h))) q e = absurd h
+    last_far rest late (Ok y) r x (inr (inr (inr h))) q e = absurd h.1
+
+    pub not_deep_end : (x : Block × Place) → told text (front ++ t ∷ []) ≡ Ok x → x.1.ahead ≡ [] → CanStandTooDeep t.span.start front t → ⊥
+    not_deep_end x q h k =
+        let rest = k.1.0 in
+        let that = front ++ t ∷ rest in
+        let w = last_fork rest k.1.2 in
+        let far : Far (t.span.start + 1) (told text that) =
+        last_far rest k.1.2 (told text (front ++ t ∷ [])) (told text that) x
+        ((module_forked (setting_by (one_line text) len max_level) w (record { stands = λ m. refl; level = λ m. refl }) (max_level + 2)).near (before (front ++ t ∷ [])) (before that)
+        (record { between = front; one = refl; other = refl; last = refl; level = refl })) q h in
+        let most = k.0 + (max_level + 2) in
+        let r = bare_is_read (deep_setting t.span.start len k.0) (deep_bounded t.span.start len k.0) (k.0 + 2) (omega arith) that k.1.1 k.1.3 in
+        no_deep_run front t rest (early_before front t [] order) k.1.2 most (omega arith) most (omega arith) far (k.1.1, r.0)
+        (deeper_read t.span.start k.0 most (omega arith) that most (omega arith) (k.1.1, r.0) r.1)

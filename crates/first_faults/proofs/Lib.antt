@@ -3,3 +3,4 @@ pub mod Completions
 pub mod Told
 pub mod Levels
 pub mod TheFault
+pub mod NoFault

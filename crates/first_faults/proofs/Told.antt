@@ -27,14 +27,14 @@ abbrev pub one_line : List ℕ → Test
 one_line text l t = on_one_line text l t.span.start
 
 -- on one line at one token, and anywhere else
-abbrev lined : List ℕ → ℕ → Test
+abbrev pub lined : List ℕ → ℕ → Test
 lined text at l t = not (t.span.start == at) || on_one_line text l at
 
 only : (b x : Bool) → (b ≡ true → x ≡ true) → (not b || x) ≡ true
 only true x h = h refl
 only false x h = refl
 
-lined_calls : (text : List ℕ) (at l : ℕ) (t : Tok) → one_line text l t ≡ true → lined text at l t ≡ true
+pub lined_calls : (text : List ℕ) (at l : ℕ) (t : Tok) → one_line text l t ≡ true → lined text at l t ≡ true
 lined_calls text at l t h = only (t.span.start == at) (on_one_line text l at) (λ e. subst (λ z. on_one_line text l z ≡ true) (eqb-true t.span.start at e) h)
 
 lined_free : (text : List ℕ) (at l : ℕ) (t : Tok) → (t.span.start ≡ at → ⊥) → lined text at l t ≡ true
@@ -183,10 +183,10 @@ module _ (text : List ℕ) where
     deep_token g =
         (is_front (Nesting t.span.start) g (let x : t.span.start ≤ t.span.start = omega arith in x), not_ambiguous (lined_deep t.span.start more enough all order g))
 
-    no_front : told all ≡ Err (Unexpected t.span.start) → IsFront front t → ⊥
+    pub no_front : told all ≡ Err (Unexpected t.span.start) → IsFront front t → ⊥
     no_front e k =
         let most = k.0 + (max_level + 2) in
-        unexpected_whatever_follows (setting_by anywhere len most) (bounded_by anywhere len most) (most + 2) (omega arith) t front behind k.1.0 (late_behind front t behind order) k.1.2
+        unexpected_whatever_follows (setting_by anywhere len most) (λ u m. refl) (most + 2) (omega arith) t front behind k.1.0 (late_behind front t behind order) k.1.2
         (still_refused (one_line text) anywhere (λ _ _ _. refl) len max_level most (omega arith) all (Unexpected t.span.start) tt e) k.1.1
         (wider_tree anywhere anywhere (λ _ _ z. z) len k.0 most (omega arith) (front ++ t ∷ k.1.0) k.1.1 k.1.3)
 
@@ -194,7 +194,7 @@ module _ (text : List ℕ) where
     never_on_one_line e deep k =
         let most = deep + (max_level + 2) in
         let c : Test = lined text t.span.start in
-        ambiguous_whatever_follows (setting_by c len most) (bounded_by c len most) (most + 2) (omega arith) t front behind k.0 (late_behind front t behind order) k.2
+        ambiguous_whatever_follows (setting_by c len most) (λ u m. refl) (most + 2) (omega arith) t front behind k.0 (late_behind front t behind order) k.2
         (lined_call t.span.start most (omega arith) all order e) k.1
         (wider_tree c c (λ _ _ z. z) len deep most (omega arith) (front ++ t ∷ k.0) k.1 k.3)
 
@@ -217,7 +217,7 @@ module _ (text : List ℕ) where
         let x = one_of front u (us ++ rest) q h.0 in
         (x.0, x.1, fronts (front ++ u ∷ []) us rest (q ∙ sym (append_assoc front (u ∷ []) (us ++ rest))) h.1)
 
-  over_unexpected : (at : ℕ) (us : List Tok) → BeginBefore at us → OvertakesAll us (Unexpected at)
+  pub over_unexpected : (at : ℕ) (us : List Tok) → BeginBefore at us → OvertakesAll us (Unexpected at)
   over_unexpected at [] h = tt
   over_unexpected at (u ∷ us) h = ((let x : u.span.start + 1 ≤ at = omega arith in x), over_unexpected at us h.1)
 
@@ -229,7 +229,7 @@ module _ (text : List ℕ) where
   over_deep at [] h = tt
   over_deep at (u ∷ us) h = ((let x : u.span.start + 1 ≤ at = omega arith in x), over_deep at us h.1)
 
-  over_end : (at : ℕ) (us : List Tok) → OvertakesAll us (UnexpectedEnd at)
+  pub over_end : (at : ℕ) (us : List Tok) → OvertakesAll us (UnexpectedEnd at)
   over_end at [] = tt
   over_end at (u ∷ us) = (tt, over_end at us)
 

@@ -4,7 +4,9 @@ ghost use Rattle.luau_lex.specs.declared.token.LexError.{LexError};
 ghost use Rattle.luau_lex.specs.Lexed.{Lexed};
 ghost use Rattle.luau_lex.specs.Tokens.{Tok};
 ghost use Rattle.luau_grammar.specs.declared.error.ParseError.TheVariants.{Unexpected, UnexpectedEnd, AmbiguousCall, Nesting};
-ghost use Rattle.luau_grammar.specs.Modules.{before};
+ghost use Rattle.luau_grammar.specs.declared.error.ParseError.{ParseError};
+ghost use Rattle.luau_grammar.specs.Modules.{IsBare, before, strict};
+ghost use Rattle.luau_tree.specs.Tree.{Block};
 ghost use Rattle.luau_grammar.specs.Reading.{strictly};
 ghost use Rattle.luau_grammar.specs.ReadModules.{module_with, max_depth};
 ghost use Rattle.wider_rules.specs.Order.{Ordered};
@@ -30,9 +32,15 @@ pub fn what_is_told_stands_at_its_least_place()
         (at ≡ length text) × AreFronts text [] ts × (HasTree ts → ⊥) }
 {}
 
-/// An ambiguous call that the parser of a text tells is its fault. So is a token that it finds to stand
-/// too deep, where the text goes on with the token behind it.
+/// What the parser of a text tells is its fault: an unexpected token, an unexpected end, an ambiguous
+/// call, and a token that stands too deep, where the text goes on with the token behind it.
 pub fn what_is_told_is_the_fault()
+    ensures unexpected { (text : List ℕ) (ts : List Tok) (at : ℕ) → Ordered ts →
+        module_with (strictly text) max_depth (before ts) ≡ Err (Unexpected at) →
+        IsFault text ts (Unexpected at) }
+    ensures unexpected_end { (text : List ℕ) (ts : List Tok) (at : ℕ) → Ordered ts →
+        module_with (strictly text) max_depth (before ts) ≡ Err (UnexpectedEnd at) →
+        IsFault text ts (UnexpectedEnd at) }
     ensures ambiguous { (text : List ℕ) (ts : List Tok) (at : ℕ) → Ordered ts →
         module_with (strictly text) max_depth (before ts) ≡ Err (AmbiguousCall at) →
         IsFault text ts (AmbiguousCall at) }
@@ -40,6 +48,12 @@ pub fn what_is_told_is_the_fault()
         Ordered (front ++ t ∷ u ∷ behind) →
         module_with (strictly text) max_depth (before (front ++ t ∷ u ∷ behind)) ≡ Err (Nesting t.span.start) →
         IsFront (front ++ t ∷ []) u → IsFault text (front ++ t ∷ u ∷ behind) (Nesting t.span.start) }
+{}
+
+/// Tokens of a text with a tree have no fault.
+pub fn a_text_with_a_tree_has_no_fault()
+    ensures { (text : List ℕ) (ts : List Tok) (b : Block) (e : ParseError) → Ordered ts →
+        IsBare (strict text) ts b → IsFault text ts e → ⊥ }
 {}
 
 /// The tokens of a text begin one behind the other.

@@ -8,18 +8,37 @@ use Rattle.luau_grammar.specs.declared.symbol.Symbol.{Symbol}
 use Rattle.luau_grammar.specs.declared.symbol.Symbol.TheVariants as s
 use Rattle.luau_grammar.specs.Symbols.{same, symbol_of}
 use Rattle.luau_grammar.specs.Places.{Place, symbol, sees, start_of}
-use Rattle.luau_grammar.specs.Reading.{Parser, ◌>>=◌, Outcome, and_then, start, last, level, set_level, span_from}
+use Rattle.luau_grammar.specs.Reading.{Setting, Parser, ◌>>=◌, Outcome, and_then, start, last, level, set_level, span_from}
 use Rattle.grammar_faults.specs.Fronts.{BeginFrom}
 pub use Rattle.grammar_faults.proofs.Local.{IsLate, Far, Shorter, here, far_then, far_if, shorter_then, shorter_if, shorter_least}
 
--- Two ways to go on behind a token, and where they begin.
+-- tokens behind the first of these begin behind it
+abbrev pub NextLate : List Tok → Type 0
+NextLate [] = Unit {0}
+NextLate (u ∷ us) = BeginFrom (u.span.start + 1) us
+
+-- all of these stand behind the first of those
+abbrev pub PastOf : List Tok → List Tok → Type 0
+PastOf [] ts = ⊥
+PastOf (u ∷ us) ts = BeginFrom (u.span.start + 1) ts
+
+-- a fault is not that the first of these, or the end, is unexpected
+abbrev pub NotAt : List Tok → ParseError → Type 0
+NotAt [] (UnexpectedEnd n) = ⊥
+NotAt [] _ = Unit {0}
+NotAt (u ∷ us) (Unexpected k) = k ≡ u.span.start → ⊥
+NotAt (u ∷ us) _ = Unit {0}
+
+-- Two ways to go on behind a token, where they begin, and at which levels the token may stand.
 pub record Fork : Type 0 where
   pub bound : ℕ
+  pub stands : ℕ → Bool
   pub token : Tok
   pub one : List Tok
   pub other : List Tok
   pub one_late : BeginFrom bound one
   pub other_late : BeginFrom bound other
+  pub one_next : NextLate one
 
 -- two places at the token or before it
 pub record SamePlace (w : Fork) (p q : Place) : Type 0 where
@@ -48,14 +67,20 @@ abbrev pub IsDeep : {A : Type 0} → Outcome A → Type 0
 IsDeep (Ok x) = ⊥
 IsDeep (Err e) = Deep e
 
--- Two outcomes are the same, or both are behind the token, or one of them is that something stands too deep.
+-- what is behind the first of these, or another fault than there
+abbrev pub BeyondOf : {A : Type 0} → List Tok → Outcome A → Type 0
+BeyondOf one (Ok x) = PastOf one x.1.ahead
+BeyondOf one (Err e) = NotAt one e
+
+-- Two outcomes are the same, or both are behind the token, or the first is that something stands too deep, or the second
+-- is, and the first is behind the token behind it.
 abbrev pub Near : {A : Type 0} → Fork → Outcome A → Outcome A → Type 0
-Near w o r = Same w o r ⊎ ((Far w.bound o × Far w.bound r) ⊎ (IsDeep o ⊎ IsDeep r))
+Near w o r = Same w o r ⊎ ((Far w.bound o × Far w.bound r) ⊎ (IsDeep o ⊎ (IsDeep r × BeyondOf w.one o)))
 
 -- What a parser does depends on the tokens that it takes; it takes at least so many.
 pub record Forked {A : Type 0} (w : Fork) (k : ℕ) (r : Parser A) : Type 0 where
   pub near : (p q : Place) → SamePlace w p q → Near w (r p) (r q)
-  pub one : (p : Place) → BeginFrom w.bound p.ahead → Far w.bound (r p)
+  pub one : (b : ℕ) (p : Place) → BeginFrom b p.ahead → Far b (r p)
   pub takes : (p : Place) → Shorter k p (r p)
 
 -- a test depends on the next token
@@ -116,23 +141,40 @@ module _ {w : Fork} where
 
 -- ---- putting parsers together
 
-deep_then : {A B : Type 0} (f : A → Parser B) (o : Outcome A) → IsDeep o → IsDeep (and_then o f)
+pub deep_then : {A B : Type 0} (f : A → Parser B) (o : Outcome A) → IsDeep o → IsDeep (and_then o f)
 deep_then f (Ok x) h = absurd h
 deep_then f (Err e) h = h
 
+far_beyond : {A : Type 0} (u : Tok) (us : List Tok) (o : Outcome A) → Far (u.span.start + 1) o → BeyondOf (u ∷ us) o
+far_beyond u us (Ok x) h = h
+far_beyond u us (Err (Unexpected k)) h = λ e. absurd (omega arith)
+far_beyond u us (Err (UnexpectedEnd k)) h = tt
+far_beyond u us (Err (AmbiguousCall k)) h = tt
+far_beyond u us (Err (Nesting k)) h = tt
+far_beyond u us (Err (Lex d)) h = tt
+far_beyond u us (Err NoMemory) h = tt
+
+pub past_beyond : {A : Type 0} (one : List Tok) (r : Parser A) → ((b : ℕ) (p : Place) → BeginFrom b p.ahead → Far b (r p)) → (p : Place) → PastOf one p.ahead → BeyondOf one (r p)
+past_beyond [] r h p k = absurd k
+past_beyond (u ∷ us) r h p k = far_beyond u us (r p) (h (u.span.start + 1) p k)
+
+pub beyond_then : {A B : Type 0} (one : List Tok) (f : A → Parser B) (o : Outcome A) → BeyondOf one o → ((x : A) (b : ℕ) (p : Place) → BeginFrom b p.ahead → Far b (f x p)) → BeyondOf one (and_then o f)
+beyond_then one f (Ok x) h k = past_beyond one (f x.0) (k x.0) x.1 h
+beyond_then one f (Err e) h k = h
+
 pub near_then : {A B : Type 0} (w : Fork) (f g : A → Parser B) (o r : Outcome A) → Near w o r
     → ((x : A) (p q : Place) → o ≡ Ok (x, p) → r ≡ Ok (x, q) → SamePlace w p q → Near w (f x p) (g x q))
-    → ((x : A) (p : Place) → BeginFrom w.bound p.ahead → Far w.bound (f x p))
-    → ((x : A) (p : Place) → BeginFrom w.bound p.ahead → Far w.bound (g x p))
+    → ((x : A) (b : ℕ) (p : Place) → BeginFrom b p.ahead → Far b (f x p))
+    → ((x : A) (b : ℕ) (p : Place) → BeginFrom b p.ahead → Far b (g x p))
     → Near w (and_then o f) (and_then r g)
 near_then w f g (Ok x) (Ok y) (inl h) k one other =
     subst (λ z. Near w (f x.0 x.1) (g z y.1)) h.0 (k x.0 x.1 y.1 refl (ap (λ z. Ok (z, y.1)) (sym h.0)) h.1)
 near_then w f g (Ok x) (Err e) (inl h) k one other = absurd h
 near_then w f g (Err e) (Ok x) (inl h) k one other = absurd h
 near_then w f g (Err e) (Err d) (inl h) k one other = inl h
-near_then w f g o r (inr (inl h)) k one other = inr (inl (far_then w.bound f o h.0 one, far_then w.bound g r h.1 other))
+near_then w f g o r (inr (inl h)) k one other = inr (inl (far_then w.bound f o h.0 (λ x. one x w.bound), far_then w.bound g r h.1 (λ x. other x w.bound)))
 near_then w f g o r (inr (inr (inl h))) k one other = inr (inr (inl (deep_then f o h)))
-near_then w f g o r (inr (inr (inr h))) k one other = inr (inr (inr (deep_then g r h)))
+near_then w f g o r (inr (inr (inr h))) k one other = inr (inr (inr (deep_then g r h.0, beyond_then w.one f o h.1 one)))
 
 pub near_if : {A : Type 0} (w : Fork) (b c : Bool) (o r m n : Outcome A) → b ≡ c → (b ≡ true → Near w o r) → (b ≡ false → Near w m n)
     → Near w (if b then o else m) (if c then r else n)
@@ -145,41 +187,52 @@ near_if w false true o r m n e h k = absurd (true≢false (sym e))
 abbrev pub Taken : {A : Type 0} → ℕ → Outcome A → Type 0
 Taken bound o = Far bound o ⊎ IsDeep o
 
-pub taken_near : {A : Type 0} (w : Fork) (o r : Outcome A) → Taken w.bound o → Taken w.bound r → Near w o r
-taken_near w o r (inl h) (inl k) = inr (inl (h, k))
-taken_near w o r (inr h) k = inr (inr (inl h))
-taken_near w o r (inl h) (inr k) = inr (inr (inr k))
-
 pub taken_then : {A B : Type 0} (bound : ℕ) (f : A → Parser B) (o : Outcome A) → Taken bound o → ((x : A) (p : Place) → BeginFrom bound p.ahead → Far bound (f x p)) → Taken bound (and_then o f)
 taken_then bound f o (inl h) k = inl (far_then bound f o h k)
 taken_then bound f o (inr h) k = inr (deep_then f o h)
 
-pub taken_if : {A : Type 0} (bound : ℕ) (b : Bool) (o r : Outcome A) → (b ≡ true → Taken bound o) → (b ≡ false → Taken bound r) → Taken bound (if b then o else r)
-taken_if bound true o r h k = h refl
-taken_if bound false o r h k = k refl
+-- what is taken for sure, or else perhaps stands too deep
+abbrev pub Gripped : {A : Type 0} → Bool → ℕ → Outcome A → Type 0
+Gripped true bound o = Far bound o
+Gripped false bound o = Taken bound o
 
-near_any : {A : Type 0} (w : Fork) (b c : Bool) (o r m n : Outcome A) → Taken w.bound o → Taken w.bound r → Taken w.bound m → Taken w.bound n
-    → Near w (if b then o else m) (if c then r else n)
-near_any w true true o r m n h i k l = taken_near w o r h i
-near_any w true false o r m n h i k l = taken_near w o n h l
-near_any w false true o r m n h i k l = taken_near w m r k i
-near_any w false false o r m n h i k l = taken_near w m n k l
+pub gripped_then : {A B : Type 0} (g : Bool) (bound : ℕ) (f : A → Parser B) (o : Outcome A) → Gripped g bound o → ((x : A) (p : Place) → BeginFrom bound p.ahead → Far bound (f x p)) → Gripped g bound (and_then o f)
+gripped_then true bound f o h k = far_then bound f o h k
+gripped_then false bound f o (inl h) k = inl (far_then bound f o h k)
+gripped_then false bound f o (inr h) k = inr (deep_then f o h)
+
+pub gripped_if : {A : Type 0} (g : Bool) (bound : ℕ) (b : Bool) (o r : Outcome A) → Gripped g bound o → Gripped g bound r → Gripped g bound (if b then o else r)
+gripped_if g bound true o r h k = h
+gripped_if g bound false o r h k = k
+
+pub deep_if : {A : Type 0} (b : Bool) (o r : Outcome A) → IsDeep o → IsDeep r → IsDeep (if b then o else r)
+deep_if true o r h k = h
+deep_if false o r h k = k
 
 -- A test that looks at two tokens where the first is a name.
 pub record Peeks2 (w : Fork) (c : Place → Bool) : Type 0 where
   pub inside : (t : Tok) (us : List Tok) (l m : ℕ) → c (here t (us ++ w.token ∷ w.one) l m) ≡ c (here t (us ++ w.token ∷ w.other) l m)
   pub plain : same (symbol_of w.token) s.Name ≡ false → (l m : ℕ) → c (here w.token w.one l m) ≡ c (here w.token w.other l m)
 
--- a parser takes a name, or it stands too deep
-pub record Names {A : Type 0} (w : Fork) (r : Parser A) : Type 0 where
-  pub taken : same (symbol_of w.token) s.Name ≡ true → (ts : List Tok) (l m : ℕ) → BeginFrom w.bound ts → Taken w.bound (r (here w.token ts l m))
+-- a parser takes a name where it may stand at the level, and finds it too deep elsewhere
+pub record Names {A : Type 0} (g : Bool) (w : Fork) (r : Parser A) : Type 0 where
+  pub taken : same (symbol_of w.token) s.Name ≡ true → (ts : List Tok) (l m : ℕ) → BeginFrom w.bound ts → w.stands m ≡ true → Gripped g w.bound (r (here w.token ts l m))
+  pub deep : same (symbol_of w.token) s.Name ≡ true → (ts : List Tok) (l m : ℕ) → BeginFrom w.bound ts → w.stands m ≡ false → IsDeep (r (here w.token ts l m))
+
+-- at which levels a setting takes the token
+pub record Link (set : Setting) (w : Fork) : Type 0 where
+  pub stands : (m : ℕ) → set.rules.may_stand w.token m ≡ w.stands m
+  pub level : (m : ℕ) → w.stands m ≡ nat_le m set.limit
+
+pub perhaps : {A : Type 0} {w : Fork} {r : Parser A} → Names true w r → Names false w r
+perhaps h = record { taken = λ e ts l m b s. inl (h.taken e ts l m b s); deep = h.deep }
 
 module _ {w : Fork} where
   -- one parser, and then another
   pub both : {A B : Type 0} {k n : ℕ} {r : Parser A} {f : A → Parser B} → Forked w k r → ((x : A) → Forked w n (f x)) → Forked w (k + n) (r >>= f)
   both {k = k} {n = n} {r = r} {f = f} h g = record {
     near = λ p q s. near_then w f f (r p) (r q) (h.near p q s) (λ x a b d e i. (g x).near a b i) (λ x. (g x).one) (λ x. (g x).one);
-    one = λ p l. far_then (w.bound) f (r p) (h.one p l) (λ x. (g x).one);
+    one = λ b p l. far_then b f (r p) (h.one b p l) (λ x. (g x).one b);
     takes = λ p. shorter_then k n p f (r p) (h.takes p) (λ x. (g x).takes);
   }
 
@@ -187,43 +240,84 @@ module _ {w : Fork} where
   pub choose : {A : Type 0} {k : ℕ} {c : Place → Bool} {r s : Parser A} → Peeks w c → Forked w k r → Forked w k s → Forked w k (λ p. if c p then r p else s p)
   choose {k = k} {c = c} {r = r} {s = s} t h g = record {
     near = λ p q i. near_if w (c p) (c q) (r p) (r q) (s p) (s q) (t p q i) (λ _. h.near p q i) (λ _. g.near p q i);
-    one = λ p l. far_if (w.bound) (c p) (r p) (s p) (h.one p l) (g.one p l);
+    one = λ b p l. far_if b (c p) (r p) (s p) (h.one b p l) (g.one b p l);
     takes = λ p. shorter_if k p (c p) (r p) (s p) (h.takes p) (g.takes p);
   }
 
-  edge : {A : Type 0} (c : Place → Bool) (r v : Parser A) → Peeks2 w c → Names w r → Names w v → ((p q : Place) → SamePlace w p q → Near w (r p) (r q)) → ((p q : Place) → SamePlace w p q → Near w (v p) (v q))
+  -- where two tests differ at a name
+  module _ {A : Type 0} (c : Place → Bool) (r v : Parser A) (h : Names true w r) (g : Names false w v) (e : same (symbol_of w.token) s.Name ≡ true) (l m : ℕ)
+      (beyond : c (here w.token w.one l m) ≡ true → w.stands m ≡ true → BeyondOf w.one (r (here w.token w.one l m)) ⊎ Far w.bound (v (here w.token w.other l m)))
+      (near_r : Near w (r (here w.token w.one l m)) (r (here w.token w.other l m))) (near_v : Near w (v (here w.token w.one l m)) (v (here w.token w.other l m))) where
+    abbrev p : Place
+    p = here w.token w.one l m
+
+    abbrev q : Place
+    q = here w.token w.other l m
+
+    first_taken : Far w.bound (r p) → Taken w.bound (v q) → BeyondOf w.one (r p) ⊎ Far w.bound (v q) → Near w (r p) (v q)
+    first_taken a (inl k) d = inr (inl (a, k))
+    first_taken a (inr k) (inl d) = inr (inr (inr (k, d)))
+    first_taken a (inr k) (inr d) = inr (inl (a, d))
+
+    other_taken : Taken w.bound (v p) → Far w.bound (r q) → Near w (v p) (r q)
+    other_taken (inl k) a = inr (inl (k, a))
+    other_taken (inr k) a = inr (inr (inl k))
+
+    differs : (a b : Bool) → c p ≡ a → (z : Bool) → w.stands m ≡ z → Near w (if a then r p else v p) (if b then r q else v q)
+    differs true true d z k = near_r
+    differs false false d z k = near_v
+    differs true false d true k = first_taken (h.taken e w.one l m w.one_late k) (g.taken e w.other l m w.other_late k) (beyond d k)
+    differs true false d false k = inr (inr (inl (h.deep e w.one l m w.one_late k)))
+    differs false true d true k = other_taken (g.taken e w.one l m w.one_late k) (h.taken e w.other l m w.other_late k)
+    differs false true d false k = inr (inr (inl (g.deep e w.one l m w.one_late k)))
+
+  edge : {A : Type 0} (c : Place → Bool) (r v : Parser A) → Peeks2 w c → Names true w r → Names false w v
+      → (same (symbol_of w.token) s.Name ≡ true → (l m : ℕ) → c (here w.token w.one l m) ≡ true → w.stands m ≡ true → BeyondOf w.one (r (here w.token w.one l m)) ⊎ Far w.bound (v (here w.token w.other l m)))
+      → ((p q : Place) → SamePlace w p q → Near w (r p) (r q)) → ((p q : Place) → SamePlace w p q → Near w (v p) (v q))
       → (l m : ℕ) (b : Bool) → same (symbol_of w.token) s.Name ≡ b
       → Near w (if c (here w.token w.one l m) then r (here w.token w.one l m) else v (here w.token w.one l m)) (if c (here w.token w.other l m) then r (here w.token w.other l m) else v (here w.token w.other l m))
-  edge c r v t h g near_r near_v l m false e =
+  edge c r v t h g d near_r near_v l m false e =
       let p = here w.token w.one l m in
       let q = here w.token w.other l m in
       let i : SamePlace w p q = record { between = []; one = refl; other = refl; last = refl; level = refl } in
       near_if w (c p) (c q) (r p) (r q) (v p) (v q) (t.plain e l m) (λ _. near_r p q i) (λ _. near_v p q i)
-  edge c r v t h g near_r near_v l m true e =
+  edge c r v t h g d near_r near_v l m true e =
       let p = here w.token w.one l m in
       let q = here w.token w.other l m in
-      near_any w (c p) (c q) (r p) (r q) (v p) (v q) (h.taken e w.one l m w.one_late) (h.taken e w.other l m w.other_late) (g.taken e w.one l m w.one_late) (g.taken e w.other l m w.other_late)
+      let i : SamePlace w p q = record { between = []; one = refl; other = refl; last = refl; level = refl } in
+      differs c r v h g e l m (d e l m) (near_r p q i) (near_v p q i) (c p) (c q) refl (w.stands m) refl
 
-  -- one of two, by such a test
-  pub choose2 : {A : Type 0} {k : ℕ} {r v : Parser A} (c : Place → Bool) → Peeks2 w c → Names w r → Names w v → Forked w k r → Forked w k v → Forked w k (λ p. if c p then r p else v p)
-  choose2 {k = k} {r = r} {v = v} c t h g a b = record {
+  chosen : {A : Type 0} {k : ℕ} {r v : Parser A} (c : Place → Bool) → Peeks2 w c → Names true w r → Names false w v
+      → (same (symbol_of w.token) s.Name ≡ true → (l m : ℕ) → c (here w.token w.one l m) ≡ true → w.stands m ≡ true → BeyondOf w.one (r (here w.token w.one l m)) ⊎ Far w.bound (v (here w.token w.other l m)))
+      → Forked w k r → Forked w k v → Forked w k (λ p. if c p then r p else v p)
+  chosen {k = k} {r = r} {v = v} c t h g d a b = record {
     near = same_places (λ p q. Near w (if c p then r p else v p) (if c q then r q else v q))
-        (λ l m. edge c r v t h g a.near b.near l m (same (symbol_of w.token) s.Name) refl)
+        (λ l m. edge c r v t h g d a.near b.near l m (same (symbol_of w.token) s.Name) refl)
         (λ u us l m.
         let p = here u (us ++ w.token ∷ w.one) l m in
         let q = here u (us ++ w.token ∷ w.other) l m in
         let i : SamePlace w p q = record { between = u ∷ us; one = refl; other = refl; last = refl; level = refl } in
         near_if w (c p) (c q) (r p) (r q) (v p) (v q) (t.inside u us l m) (λ _. a.near p q i) (λ _. b.near p q i));
-    one = λ p l. far_if (w.bound) (c p) (r p) (v p) (a.one p l) (b.one p l);
+    one = λ z p l. far_if z (c p) (r p) (v p) (a.one z p l) (b.one z p l);
     takes = λ p. shorter_if k p (c p) (r p) (v p) (a.takes p) (b.takes p);
   }
+
+  -- one of two, by such a test: where it says so, the first takes the second token too
+  pub choose2 : {A : Type 0} {k : ℕ} {r v : Parser A} (c : Place → Bool) → Peeks2 w c → Names true w r → Names false w v
+      → (same (symbol_of w.token) s.Name ≡ true → (l m : ℕ) → c (here w.token w.one l m) ≡ true → w.stands m ≡ true → BeyondOf w.one (r (here w.token w.one l m)))
+      → Forked w k r → Forked w k v → Forked w k (λ p. if c p then r p else v p)
+  choose2 c t h g d a b = chosen c t h g (λ e l m i j. inl (d e l m i j)) a b
+
+  -- both take the name alike
+  pub either_name : {A : Type 0} {k : ℕ} {r v : Parser A} (c : Place → Bool) → Peeks2 w c → Names true w r → Names true w v → Forked w k r → Forked w k v → Forked w k (λ p. if c p then r p else v p)
+  either_name c t h g a b = chosen c t h (perhaps g) (λ e l m i j. inr (g.taken e w.other l m w.other_late j)) a b
 
   pub least : {A : Type 0} {n : ℕ} {r : Parser A} (k : ℕ) → nat_le k n ≡ true → Forked w n r → Forked w k r
   least {n = n} {r = r} k e h = record { near = h.near; one = h.one; takes = λ p. shorter_least k n p (r p) (leb-true k n e) (h.takes p) }
 
   -- what a place says
   pub given : {C : Type 0} {c : Place → C} → Peeks w c → Forked w 0 (λ p. Ok (c p, p))
-  given t = record { near = λ p q i. inl (t p q i, i); one = λ p l. l; takes = λ p. omega arith }
+  given t = record { near = λ p q i. inl (t p q i, i); one = λ b p l. l; takes = λ p. omega arith }
 
   pub done : {A : Type 0} (x : A) → Forked w 0 (λ p. Ok (x, p))
   done x = given (peeks_const x)
@@ -243,6 +337,6 @@ module _ {w : Fork} where
   pub to_level : (at : ℕ) → Forked w 0 (set_level at)
   to_level at = record {
     near = λ p q i. inl (refl, record { between = i.between; one = i.one; other = i.other; last = i.last; level = refl });
-    one = λ p l. l;
+    one = λ b p l. l;
     takes = λ p. omega arith;
   }

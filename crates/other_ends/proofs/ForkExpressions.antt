@@ -1,5 +1,5 @@
 -- The parsers of expressions and function bodies depend on what they take.
-use Rattle.std.proofs.Common.{ℕ, ◌||◌, sym, subst, if◌then◌else◌, true, false, List, [], ◌∷◌, ◌++◌, refl, Option, None, is_some}
+use Rattle.std.proofs.Common.{ℕ, ◌||◌, sym, subst, if◌then◌else◌, true, false, List, [], ◌∷◌, ◌++◌, refl, Option, None, is_some, ◌≡◌}
 use Rattle.luau_tree.specs.declared.position.Span.{Span}
 use Rattle.luau_tree.specs.Tree.{Expr, Exprs, ExprKind, Item}
 use Rattle.luau_tree.specs.Tree as tree
@@ -7,16 +7,16 @@ use Rattle.luau_tree.specs.View.{exprs, binds, items, choices}
 use Rattle.luau_grammar.specs.declared.symbol.Symbol.{Symbol}
 use Rattle.luau_grammar.specs.declared.symbol.Symbol.TheVariants as s
 use Rattle.luau_grammar.specs.Symbols.{same, symbol_of}
-use Rattle.luau_grammar.specs.Places.{symbol, sees, sees_behind, start_of}
+use Rattle.luau_grammar.specs.Places.{first_symbol, symbol, symbol_behind, sees, sees_behind, start_of}
 use Rattle.luau_grammar.specs.Expressions.{begins_suffix, begins_field, sees_pack}
 use Rattle.luau_grammar.specs.Reading as read
 use Rattle.luau_grammar.specs.Reading.{Setting, Parser, Readers, ◌>>=◌, pure, start}
 use Rattle.luau_grammar.specs.ReadPhrases as phrases
 use Rattle.luau_grammar.specs.ReadExpressions as code
 use Rattle.luau_grammar.specs.ReadExpressions.{Parameters, Interpolated, goes_parameters, no_parameters, is_open, with_self}
-use Rattle.other_ends.proofs.Fork.{Fork, Forked, Peeks, Peeks2, Names, Taken, here, both, choose, choose2, least, done, at_start, at_here, at_span, to_level, peeks_sees, peeks_const, peeks_and, peeks_or, peeks_symbol, peeks_start}
+use Rattle.other_ends.proofs.Fork.{Fork, Forked, Peeks, Peeks2, Names, Far, IsDeep, BeyondOf, here, both, choose, choose2, least, done, at_start, at_here, at_span, to_level, peeks_sees, peeks_const, peeks_and, peeks_or, peeks_symbol, peeks_start}
 use Rattle.other_ends.proofs.ForkCases.{by_symbol}
-use Rattle.other_ends.proofs.ForkNames.{two_name, behind_sees, name_names, names_then, names_start, names_else}
+use Rattle.other_ends.proofs.ForkNames.{two_name, behind_sees, name_names, name_beyond, names_then, names_start, names_else}
 use Rattle.other_ends.proofs.ForkTokens.{refuses, any, token, a_name, a_string, raises, opens}
 use Rattle.other_ends.proofs.ForkSteps.{steps, in_list}
 use Rattle.other_ends.proofs.ForkTypes as types
@@ -41,7 +41,7 @@ module _ {w : Fork} where
       peeks_or (peeks_or (peeks_sees s.Dot) (peeks_or (peeks_sees s.LeftBracket) (peeks_sees s.Colon)))
       (peeks_or (peeks_sees s.LeftParen) (peeks_or (peeks_sees s.LeftBrace) (peeks_sees s.Text)))
 
-module _ (set : Setting) (inner : Readers) (w : Fork) (held : ForkReaders w inner) where
+module _ (set : Setting) (inner : Readers) (w : Fork) (held : ForkReaders set w inner) where
   pub exp_forked : Forked w 1 (phrases.expression set inner)
   exp_forked = types.exp_forked set inner w held
 
@@ -73,7 +73,7 @@ module _ (set : Setting) (inner : Readers) (w : Fork) (held : ForkReaders w inne
   pub var_type_forked : Forked w 1 (code.var_type set inner)
   unfolding code.var_type
   var_type_forked =
-      choose2 sees_pack two_pack (types.generic_pack_names set inner w held) (types.typ_names set inner w held) (types.generic_pack_forked set inner w held) typ_forked
+      choose2 sees_pack two_pack (types.generic_pack_names set inner w held) (types.typ_names set inner w held) (types.generic_pack_beyond set inner w held) (types.generic_pack_forked set inner w held) typ_forked
 
   pub var_annotation_forked : Forked w 0 (code.var_annotation set inner)
   unfolding code.var_annotation
@@ -134,20 +134,26 @@ module _ (set : Setting) (inner : Readers) (w : Fork) (held : ForkReaders w inne
   unfolding code.field
   field_forked = least 1 refl (both (a_name set) (λ name. both (token set s.Assign) (λ _. both exp_forked (λ value. done (tree.Field name value)))))
 
-  field_names : Names w (code.field set inner)
+  field_names : Names true w (code.field set inner)
   unfolding code.field
-  field_names = names_then (name_names set) (λ name. both (token set s.Assign) (λ _. both exp_forked (λ value. done (tree.Field name value))))
+  field_names = names_then (name_names set held.link) (λ name. both (token set s.Assign) (λ _. both exp_forked (λ value. done (tree.Field name value))))
+
+  field_beyond : same (symbol_of w.token) s.Name ≡ true → (l m : ℕ) → begins_field (here w.token w.one l m) ≡ true → w.stands m ≡ true → BeyondOf w.one (code.field set inner (here w.token w.one l m))
+  unfolding code.field sees_behind symbol_behind same
+  field_beyond e l m c z =
+      name_beyond set held.link s.Assign refl (λ n _. both exp_forked (λ value. done (tree.Field n value))) e l m
+      (types.right_of (sees s.Name (here w.token w.one l m)) (same (first_symbol w.one) s.Assign) c) z
 
   abbrev plain : Parser Item
   plain = phrases.expression set inner >>= (λ value. pure (tree.Plain value))
 
-  plain_names : Names w plain
+  plain_names : Names false w plain
   plain_names = names_then (types.exp_names set inner w held) (λ value. done (tree.Plain value))
 
   pub item_forked : Forked w 1 (code.item set inner)
   unfolding code.item
   item_forked =
-      choose (peeks_sees s.LeftBracket) keyed_forked (choose2 begins_field two_field field_names plain_names field_forked (least 1 refl (both exp_forked (λ value. done (tree.Plain value)))))
+      choose (peeks_sees s.LeftBracket) keyed_forked (choose2 begins_field two_field field_names plain_names field_beyond field_forked (least 1 refl (both exp_forked (λ value. done (tree.Plain value)))))
 
   pub fields_forked : Forked w 0 (code.fields set inner)
   unfolding code.fields
@@ -338,26 +344,29 @@ module _ (set : Setting) (inner : Readers) (w : Fork) (held : ForkReaders w inne
 
   -- ---- what begins with a name
 
-  name_expression_names : Names w (code.name_expression set inner)
+  name_expression_names : Names true w (code.name_expression set inner)
   unfolding code.name_expression
-  name_expression_names = names_start (λ from. names_then (name_names set) (λ name. both (at_span from) (λ span. done (tree.the_expr 0 span (tree.NameExpr name)))))
+  name_expression_names = names_start (λ from. names_then (name_names set held.link) (λ name. both (at_span from) (λ span. done (tree.the_expr 0 span (tree.NameExpr name)))))
 
-  primary_names : Names w (code.primary set inner)
+  primary_names : Names true w (code.primary set inner)
   unfolding code.primary same
   primary_names = names_else s.LeftParen (code.paren set inner) refl name_expression_names
 
-  pub prefix_names : Names w (code.prefix set inner)
+  pub prefix_names : Names true w (code.prefix set inner)
   unfolding code.prefix
   prefix_names = names_start (λ from. names_then primary_names (λ first. steps set (λ _ p. begins_suffix p) (code.suffix set inner from) (λ _. peeks_suffix) (suffix_forked from) first))
 
-  simple_names : Names w (code.simple set inner)
+  simple_names : Names true w (code.simple set inner)
   unfolding code.simple sees symbol
   simple_names = record {
-    taken = λ e ts l m b.
+    taken = λ e ts l m b z.
         let p = here w.token ts l m in
-        subst (λ z. Taken w.bound (if z || same (symbol_of w.token) s.LeftParen then code.prefix set inner p else code.form set inner p)) (sym e) (prefix_names.taken e ts l m b);
+        subst (λ c. Far w.bound (if c || same (symbol_of w.token) s.LeftParen then code.prefix set inner p else code.form set inner p)) (sym e) (prefix_names.taken e ts l m b z);
+    deep = λ e ts l m b z.
+        let p = here w.token ts l m in
+        subst (λ c. IsDeep (if c || same (symbol_of w.token) s.LeftParen then code.prefix set inner p else code.form set inner p)) (sym e) (prefix_names.deep e ts l m b z);
   }
 
-  pub assertion_names : Names w (code.assertion set inner)
+  pub assertion_names : Names true w (code.assertion set inner)
   unfolding code.assertion
   assertion_names = names_start (λ from. names_then simple_names (λ x. asserted_forked from x))

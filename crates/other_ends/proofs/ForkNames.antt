@@ -1,5 +1,5 @@
 -- Tests that look at two tokens, and what parsers do with a name.
-use Rattle.std.proofs.Common.{◌≡◌, ℕ, Bool, true, false, true≢false, ◌&&◌, ◌||◌, List, [], ◌∷◌, ◌++◌, refl, sym, ap, ap₂, subst, inl, inr, bytes_eq, if◌then◌else◌}
+use Rattle.std.proofs.Common.{◌≡◌, ℕ, ◌+◌, Bool, true, false, true≢false, ◌&&◌, ◌||◌, List, [], ◌∷◌, ◌++◌, refl, sym, ◌∙◌, ap, ap₂, subst, bytes_eq, if◌then◌else◌}
 use Rattle.std.specs.Prelude.{Ok, Err}
 use denote.Enum.Bare.{same_true}
 use Rattle.luau_lex.specs.Tokens.{Tok}
@@ -13,7 +13,7 @@ use Rattle.luau_grammar.specs.Statements.{second_bytes}
 use Rattle.luau_grammar.specs.Reading as read
 use Rattle.luau_grammar.specs.Reading.{Setting, Parser, Outcome, ◌>>=◌, and_then, pure, start, next, expect}
 use Rattle.grammar_faults.specs.Fronts.{BeginFrom}
-use Rattle.other_ends.proofs.Fork.{Fork, Near, Far, Forked, Peeks, Peeks2, Names, Taken, Shorter, here, taken_then, taken_if}
+use Rattle.other_ends.proofs.Fork.{Fork, NextLate, Near, Far, Forked, Peeks, Peeks2, Names, Link, Gripped, IsDeep, BeyondOf, Shorter, here, deep_then, deep_if, gripped_then, gripped_if, beyond_then, done}
 
 -- ---- tests
 
@@ -94,59 +94,107 @@ pub then_if : {A B : Type 0} (b : Bool) (o r : Outcome A) (g : A → Parser B) �
 then_if true o r g = refl
 then_if false o r g = refl
 
-module _ (set : Setting) (w : Fork) where
-  next_case : (ts : List Tok) (m : ℕ) → BeginFrom w.bound ts → (b : Bool) → Taken {A = Tok} w.bound (if b then Ok (w.token, behind w.token ts m) else Err (Nesting w.token.span.start))
-  next_case ts m h true = inl h
-  next_case ts m h false = inr tt
-
-  next_taken : (ts : List Tok) (l m : ℕ) → BeginFrom w.bound ts → Taken w.bound (next set (here w.token ts l m))
+module _ (set : Setting) (w : Fork) (link : Link set w) where
+  next_case : (ts : List Tok) (l m : ℕ) (z : Bool) → w.stands m ≡ z → next set (here w.token ts l m) ≡ (if z then Ok (w.token, behind w.token ts m) else Err (Nesting w.token.span.start))
   unfolding next
-  next_taken ts l m h = next_case ts m h (set.rules.may_stand w.token m)
+  next_case ts l m z k = ap (λ b. if b then Ok (w.token, behind w.token ts m) else Err (Nesting w.token.span.start)) (link.stands m ∙ k)
 
-  expect_taken : same (symbol_of w.token) s.Name ≡ true → (ts : List Tok) (l m : ℕ) → BeginFrom w.bound ts → Taken w.bound (expect set s.Name (here w.token ts l m))
+  expect_case : same (symbol_of w.token) s.Name ≡ true → (ts : List Tok) (l m : ℕ) (z : Bool) → w.stands m ≡ z → expect set s.Name (here w.token ts l m) ≡ (if z then Ok (w.token, behind w.token ts m) else Err (Nesting w.token.span.start))
   unfolding expect sees symbol
-  expect_taken e ts l m h = subst (λ b. Taken w.bound (if b then next set (here w.token ts l m) else read.refuse set (here w.token ts l m))) (sym e) (next_taken ts l m h)
+  expect_case e ts l m z k = ap (λ b. if b then next set (here w.token ts l m) else read.refuse set (here w.token ts l m)) e ∙ next_case ts l m z k
 
-module _ (set : Setting) {w : Fork} where
-  pub next_names : Names w (next set)
-  next_names = record { taken = λ e ts l m h. next_taken set w ts l m h }
+module _ (set : Setting) {w : Fork} (link : Link set w) where
+  pub next_names : Names true w (next set)
+  next_names = record {
+    taken = λ e ts l m h k. subst (λ o. Far {A = Tok} w.bound o) (sym (next_case set w link ts l m true k)) h;
+    deep = λ e ts l m h k. subst (λ o. IsDeep {A = Tok} o) (sym (next_case set w link ts l m false k)) tt;
+  }
 
-  pub expect_names : Names w (expect set s.Name)
-  expect_names = record { taken = λ e ts l m h. expect_taken set w e ts l m h }
-
-  pub name_names : Names w (read.name set)
-  unfolding read.name
-  name_names = record { taken = λ e ts l m h. taken_then w.bound (λ t. pure t.bytes) (expect set s.Name (here w.token ts l m)) (expect_taken set w e ts l m h) (λ _ _ b. b) }
+  pub expect_names : Names true w (expect set s.Name)
+  expect_names = record {
+    taken = λ e ts l m h k. subst (λ o. Far {A = Tok} w.bound o) (sym (expect_case set w link e ts l m true k)) h;
+    deep = λ e ts l m h k. subst (λ o. IsDeep {A = Tok} o) (sym (expect_case set w link e ts l m false k)) tt;
+  }
 
 module _ {w : Fork} where
   -- what takes a name, and then another parser
-  pub names_then : {A B : Type 0} {k : ℕ} {r : Parser A} {g : A → Parser B} → Names w r → ((x : A) → Forked w k (g x)) → Names w (r >>= g)
-  names_then {r = r} {g = g} h f = record { taken = λ e ts l m b. taken_then w.bound g (r (here w.token ts l m)) (h.taken e ts l m b) (λ x. (f x).one) }
+  pub names_then : {A B : Type 0} {g : Bool} {k : ℕ} {r : Parser A} {f : A → Parser B} → Names g w r → ((x : A) → Forked w k (f x)) → Names g w (r >>= f)
+  names_then {g = g} {r = r} {f = f} h n = record {
+    taken = λ e ts l m b z. gripped_then g w.bound f (r (here w.token ts l m)) (h.taken e ts l m b z) (λ x. (n x).one w.bound);
+    deep = λ e ts l m b z. deep_then f (r (here w.token ts l m)) (h.deep e ts l m b z);
+  }
 
-  pub names_start : {A : Type 0} {g : ℕ → Parser A} → ((n : ℕ) → Names w (g n)) → Names w (start >>= g)
-  names_start h = record { taken = λ e ts l m b. (h (start_of (here w.token ts l m))).taken e ts l m b }
+  pub names_start : {A : Type 0} {g : Bool} {f : ℕ → Parser A} → ((n : ℕ) → Names g w (f n)) → Names g w (start >>= f)
+  names_start h = record {
+    taken = λ e ts l m b z. (h (start_of (here w.token ts l m))).taken e ts l m b z;
+    deep = λ e ts l m b z. (h (start_of (here w.token ts l m))).deep e ts l m b z;
+  }
 
   -- what takes a name in both ways
-  pub names_if : {A : Type 0} {r v : Parser A} (c : Place → Bool) → Names w r → Names w v → Names w (λ p. if c p then r p else v p)
-  names_if {r = r} {v = v} c h k = record {
-    taken = λ e ts l m b.
+  pub names_if : {A : Type 0} {g : Bool} {r v : Parser A} (c : Place → Bool) → Names g w r → Names g w v → Names g w (λ p. if c p then r p else v p)
+  names_if {g = g} {r = r} {v = v} c h k = record {
+    taken = λ e ts l m b z.
         let p = here w.token ts l m in
-        taken_if w.bound (c p) (r p) (v p) (λ _. h.taken e ts l m b) (λ _. k.taken e ts l m b);
+        gripped_if g w.bound (c p) (r p) (v p) (h.taken e ts l m b z) (k.taken e ts l m b z);
+    deep = λ e ts l m b z.
+        let p = here w.token ts l m in
+        deep_if (c p) (r p) (v p) (h.deep e ts l m b z) (k.deep e ts l m b z);
   }
 
   -- a symbol that is no name
-  pub names_else : {A : Type 0} {v : Parser A} (x : Symbol) (r : Parser A) → same s.Name x ≡ false → Names w v → Names w (λ p. if sees x p then r p else v p)
+  pub names_else : {A : Type 0} {g : Bool} {v : Parser A} (x : Symbol) (r : Parser A) → same s.Name x ≡ false → Names g w v → Names g w (λ p. if sees x p then r p else v p)
   unfolding sees symbol
-  names_else {v = v} x r n k = record {
-    taken = λ e ts l m b.
+  names_else {g = g} {v = v} x r n k = record {
+    taken = λ e ts l m b z.
         let p = here w.token ts l m in
-        subst (λ z. Taken w.bound (if z then r p else v p)) (sym (only_name (symbol_of w.token) x e n)) (k.taken e ts l m b);
+        subst (λ c. Gripped g w.bound (if c then r p else v p)) (sym (only_name (symbol_of w.token) x e n)) (k.taken e ts l m b z);
+    deep = λ e ts l m b z.
+        let p = here w.token ts l m in
+        subst (λ c. IsDeep (if c then r p else v p)) (sym (only_name (symbol_of w.token) x e n)) (k.deep e ts l m b z);
   }
+
+module _ (set : Setting) {w : Fork} (link : Link set w) where
+  pub name_names : Names true w (read.name set)
+  unfolding read.name
+  name_names = names_then (expect_names set link) (λ t. done t.bytes)
+
+-- ---- the token behind the name
+
+second_case : (u : Tok) (us : List Tok) (m : ℕ) → BeginFrom (u.span.start + 1) us → (b : Bool) → BeyondOf {A = Tok} (u ∷ us) (if b then Ok (u, behind u us m) else Err (Nesting u.span.start))
+second_case u us m h true = h
+second_case u us m h false = tt
+
+-- where a symbol comes next, it is taken, or the fault is another one
+second : (set : Setting) (x : Symbol) (u : Tok) (us : List Tok) (l m : ℕ) → BeginFrom (u.span.start + 1) us → same (symbol_of u) x ≡ true → BeyondOf (u ∷ us) (expect set x (here u us l m))
+unfolding expect next sees symbol
+second set x u us l m h e =
+    subst (λ b. BeyondOf {A = Tok} (u ∷ us) (if b then (if set.rules.may_stand u m then Ok (u, behind u us m) else Err (Nesting u.span.start)) else Err (read.refusal set (here u us l m)))) (sym e)
+    (second_case u us m h (set.rules.may_stand u m))
+
+abbrev at_rest : List Tok → ℕ → ℕ → Place
+at_rest ts l m = record { ahead = ts; last = l; level = m }
+
+pub expect_beyond : (set : Setting) (x : Symbol) (one : List Tok) (l m : ℕ) → NextLate one → same s.Stop x ≡ false → same (first_symbol one) x ≡ true → BeyondOf one (expect set x (at_rest one l m))
+expect_beyond set x [] l m h n e = absurd (true≢false (sym e ∙ n))
+expect_beyond set x (u ∷ us) l m h n e = second set x u us l m h e
+
+module _ (set : Setting) {w : Fork} (link : Link set w) where
+  -- a name and a symbol
+  pub name_beyond : {B : Type 0} {k : ℕ} {g : List ℕ → Tok → Parser B} (x : Symbol) → same s.Stop x ≡ false → ((n : List ℕ) (t : Tok) → Forked w k (g n t)) → same (symbol_of w.token) s.Name ≡ true
+      → (l m : ℕ) → same (first_symbol w.one) x ≡ true → w.stands m ≡ true → BeyondOf w.one ((read.name set >>= (λ n. expect set x >>= g n)) (here w.token w.one l m))
+  unfolding read.name
+  name_beyond {g = g} x n f e l m d z =
+      subst (λ o. BeyondOf w.one (and_then (and_then o (λ t. pure t.bytes)) (λ n. expect set x >>= g n))) (sym (expect_case set w link e w.one l m true z))
+      (beyond_then w.one (g w.token.bytes) (expect set x (at_rest w.one w.token.span.end m)) (expect_beyond set x w.one w.token.span.end m w.one_next n d) (λ t. (f w.token.bytes t).one))
+
+  -- any token, and a parser that takes the one behind it
+  pub next_beyond : {B : Type 0} (g : Tok → Parser B) (l m : ℕ) → w.stands m ≡ true → BeyondOf w.one (g w.token (at_rest w.one w.token.span.end m)) → BeyondOf w.one ((next set >>= g) (here w.token w.one l m))
+  next_beyond g l m z h = subst (λ o. BeyondOf w.one (and_then o g)) (sym (next_case set w link w.one l m true z)) h
 
 -- the same parser, written otherwise
 pub forked_by : {A : Type 0} {w : Fork} {k : ℕ} {r t : Parser A} → ((p : Place) → t p ≡ r p) → Forked w k r → Forked w k t
 forked_by {w = w} {k = k} {r = r} {t = t} d h = record {
   near = λ p q i. subst (λ o. Near w o (t q)) (sym (d p)) (subst (λ o. Near w (r p) o) (sym (d q)) (h.near p q i));
-  one = λ p l. subst (λ o. Far w.bound o) (sym (d p)) (h.one p l);
+  one = λ b p l. subst (λ o. Far b o) (sym (d p)) (h.one b p l);
   takes = λ p. subst (λ o. Shorter k p o) (sym (d p)) (h.takes p);
 }

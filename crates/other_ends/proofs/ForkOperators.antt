@@ -1,5 +1,5 @@
 -- The parsers of operations depend on what they take, however many turns they have.
-use Rattle.std.proofs.Common.{◌≡◌, ℕ, zero, suc, ◌+◌, ◌≤◌, List, [], ◌∷◌, length, refl, ap, subst, sym, ◌∙◌, if◌then◌else◌, Option, Some, None, is_some, arith}
+use Rattle.std.proofs.Common.{◌≡◌, ℕ, zero, suc, ◌+◌, ◌≤◌, List, [], ◌∷◌, length, refl, ap, subst, sym, ◌∙◌, if◌then◌else◌, Option, Some, None, is_some, arith, true}
 use Rattle.std.specs.Prelude.{Ok, Err}
 use Rattle.luau_tree.specs.declared.names.UnOp.{UnOp}
 use Rattle.luau_tree.specs.declared.names.BinOp.{BinOp}
@@ -11,7 +11,7 @@ use Rattle.luau_lex.specs.Tokens.{Tok}
 use Rattle.luau_grammar.specs.Operators.{binary_of, unary_of, unary_tightness}
 use Rattle.luau_grammar.specs.Reading.{Setting, Parser, Outcome, Readers, ◌>>=◌, pure, span_from, and_then, refuse, next, raise, repeats}
 use Rattle.luau_grammar.specs.ReadExpressions as code
-use Rattle.other_ends.proofs.Fork.{Fork, Near, Shorter, Forked, Peeks, Names, Taken, here, both, least, at_start, at_span, done, peeks_symbol, peeks_of}
+use Rattle.other_ends.proofs.Fork.{Fork, Near, Shorter, Forked, Peeks, Names, here, both, least, at_start, at_span, done, peeks_symbol, peeks_of, Far, IsDeep}
 use Rattle.other_ends.proofs.ForkCases.{by_symbol}
 use Rattle.other_ends.proofs.ForkNames.{name_is, names_then, names_start}
 use Rattle.other_ends.proofs.ForkTokens.{refuses, any, raises}
@@ -26,7 +26,7 @@ by_operator set inner operation from left (Some op) = code.binary set inner oper
 
 -- ---- parsers of operations that depend on what they take
 
-module _ (set : Setting) (inner : Readers) (w : Fork) (held : ForkReaders w inner) (operation : ℕ → Parser Expr)
+module _ (set : Setting) (inner : Readers) (w : Fork) (held : ForkReaders set w inner) (operation : ℕ → Parser Expr)
     (right : (at : ℕ) → Forked w 1 (operation at)) where
   pub unary_forked : (op : UnOp) → Forked w 1 (code.unary set inner (operation unary_tightness) op)
   unfolding code.unary
@@ -69,7 +69,7 @@ module _ (set : Setting) (inner : Readers) (w : Fork) (held : ForkReaders w inne
   unfolding code.climb
   climb_forked at = least 1 refl (both at_start (λ from. both operand_forked (λ first. from_forked at from first)))
 
-module _ (set : Setting) (inner : Readers) (w : Fork) (held : ForkReaders w inner) where
+module _ (set : Setting) (inner : Readers) (w : Fork) (held : ForkReaders set w inner) where
   pub operation_forked : (turns at : ℕ) → Forked w 1 (code.operation set inner turns at)
   unfolding code.operation
   operation_forked zero at = refuses set 1
@@ -84,7 +84,7 @@ and_same (Err e) h = refl
 and_from : {A B : Type 0} (o r : Outcome A) (f : A → Parser B) → o ≡ r → and_then o f ≡ and_then r f
 and_from o r f e = ap (λ z. and_then z f) e
 
-module _ (set : Setting) (inner : Readers) (w : Fork) (held : ForkReaders w inner) (one other : ℕ → Parser Expr) (m : ℕ)
+module _ (set : Setting) (inner : Readers) (w : Fork) (held : ForkReaders set w inner) (one other : ℕ → Parser Expr) (m : ℕ)
     (alike : (at : ℕ) (p : Place) → length p.ahead ≤ m → one at p ≡ other at p) (right : (at : ℕ) → Forked w 1 (one at)) where
   behind_any : (p a : Place) (t : Tok) → next set p ≡ Ok (t, a) → length p.ahead ≤ m + 1 → length a.ahead ≤ m
   behind_any p a t e l = taken_of 1 m p a t (next set p) e ((any set {w = w}).takes p) l
@@ -144,7 +144,7 @@ module _ (set : Setting) (inner : Readers) (w : Fork) (held : ForkReaders w inne
       (weaker p (code.operand set inner one p) ((operand_forked set inner w held one right).takes p)) (omega arith)))
       ∙ ap (λ o. and_then o (code.climb_from set inner other at (start_of p))) (operand_same p l)
 
-module _ (set : Setting) (inner : Readers) (w : Fork) (held : ForkReaders w inner) where
+module _ (set : Setting) (inner : Readers) (w : Fork) (held : ForkReaders set w inner) where
   no_turns : (m at : ℕ) (ts : List Tok) (last level : ℕ) → length ts ≤ 0
       → code.operation set inner zero at (record { ahead = ts; last = last; level = level })
       ≡ code.operation set inner (suc m) at (record { ahead = ts; last = last; level = level })
@@ -177,25 +177,27 @@ module _ (set : Setting) (inner : Readers) (w : Fork) (held : ForkReaders w inne
         in
         subst (λ o. Near w o (code.operation set inner n 0 q)) (sym (more_turns n m p (omega arith)))
         (subst (λ o. Near w (code.operation set inner (n + m) 0 p) o) (sym e) ((operation_forked set inner w held (n + m) 0).near p q i));
-    one = λ p l. (operation_forked set inner w held (length p.ahead) 0).one p l;
+    one = λ b p l. (operation_forked set inner w held (length p.ahead) 0).one b p l;
     takes = λ p. (operation_forked set inner w held (length p.ahead) 0).takes p;
   }
 
 -- ---- an expression that begins with a name
 
-module _ (set : Setting) (inner : Readers) (w : Fork) (held : ForkReaders w inner) where
-  operand_names : (operation : ℕ → Parser Expr) → Names w (code.operand set inner operation)
+module _ (set : Setting) (inner : Readers) (w : Fork) (held : ForkReaders set w inner) where
+  operand_names : (operation : ℕ → Parser Expr) → Names true w (code.operand set inner operation)
   unfolding code.operand symbol
   operand_names operation = record {
-    taken = λ e ts l m b.
-        subst (λ x. Taken w.bound (code.operand_by set inner operation (unary_of x) (here w.token ts l m))) (sym (name_is (symbol_of w.token) e)) ((assertion_names set inner w held).taken e ts l m b);
+    taken = λ e ts l m b z.
+        subst (λ x. Far w.bound (code.operand_by set inner operation (unary_of x) (here w.token ts l m))) (sym (name_is (symbol_of w.token) e)) ((assertion_names set inner w held).taken e ts l m b z);
+    deep = λ e ts l m b z.
+        subst (λ x. IsDeep (code.operand_by set inner operation (unary_of x) (here w.token ts l m))) (sym (name_is (symbol_of w.token) e)) ((assertion_names set inner w held).deep e ts l m b z);
   }
 
-  climb_names : (turns at : ℕ) → Names w (code.climb set inner (code.operation set inner turns) at)
+  climb_names : (turns at : ℕ) → Names true w (code.climb set inner (code.operation set inner turns) at)
   unfolding code.climb
   climb_names turns at =
       names_start (λ from. names_then (operand_names (code.operation set inner turns)) (λ first. from_forked set inner w held (code.operation set inner turns) (operation_forked set inner w held turns) at from first))
 
-  pub expression_inside_names : Names w (code.expression_inside set inner)
+  pub expression_inside_names : Names true w (code.expression_inside set inner)
   unfolding code.expression_inside code.operation
-  expression_inside_names = record { taken = λ e ts l m b. (climb_names (length ts) 0).taken e ts l m b }
+  expression_inside_names = record { taken = λ e ts l m b z. (climb_names (length ts) 0).taken e ts l m b z; deep = λ e ts l m b z. (climb_names (length ts) 0).deep e ts l m b z }

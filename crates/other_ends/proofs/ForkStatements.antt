@@ -16,7 +16,7 @@ use Rattle.luau_grammar.specs.ReadPhrases as phrases
 use Rattle.luau_grammar.specs.ReadExpressions as values
 use Rattle.luau_grammar.specs.ReadStatements as code
 use Rattle.luau_grammar.specs.ReadStatements.{Statements}
-use Rattle.other_ends.proofs.Fork.{Fork, Forked, Peeks, Peeks2, Names, both, choose, choose2, least, done, given, at_start, at_here, at_span, to_level, peeks_sees, peeks_const, peeks_of, peeks_and, peeks_symbol, peeks_start, peeks_last}
+use Rattle.other_ends.proofs.Fork.{Fork, Forked, Peeks, Peeks2, Names, both, choose, either_name, least, done, given, at_start, at_here, at_span, to_level, peeks_sees, peeks_const, peeks_of, peeks_and, peeks_symbol, peeks_start, peeks_last}
 use Rattle.other_ends.proofs.ForkCases.{by_symbol}
 use Rattle.other_ends.proofs.ForkNames.{two_word, behind_sees, behind_of, behind_bytes, behind_or, behind_and, next_names, names_then, names_if}
 use Rattle.other_ends.proofs.ForkTokens.{refuses, any, token, eaten, a_name, raises}
@@ -36,7 +36,7 @@ module _ {w : Fork} where
   two_export =
       two_word (codes "export") (λ p. sees_behind s.Name p && bytes_eq (second_bytes p.ahead) (codes "type")) (behind_and (behind_sees s.Name) (behind_bytes (codes "type")))
 
-module _ (set : Setting) (inner : Readers) (w : Fork) (held : ForkReaders w inner) where
+module _ (set : Setting) (inner : Readers) (w : Fork) (held : ForkReaders set w inner) where
   pub exp_forked : Forked w 1 (phrases.expression set inner)
   exp_forked = types.exp_forked set inner w held
 
@@ -228,19 +228,22 @@ module _ (set : Setting) (inner : Readers) (w : Fork) (held : ForkReaders w inne
   unfolding code.do_statement
   do_forked from = least 1 refl (both do_block_forked (λ b. both (at_span from) (λ span. done (tree.the_stat span (tree.Do b)))))
 
-  word_names : (from : ℕ) (kind : StatKind) → Names w (code.word_statement set inner from kind)
+  word_names : (from : ℕ) (kind : StatKind) → Names true w (code.word_statement set inner from kind)
   unfolding code.word_statement
-  word_names from kind = names_then (next_names set) (λ _. both (at_span from) (λ span. done (tree.the_stat span kind)))
+  word_names from kind = names_then (next_names set held.link) (λ _. both (at_span from) (λ span. done (tree.the_stat span kind)))
 
-  type_names : (from : ℕ) (exported : Bool) → Names w (code.type_statement set inner from exported)
+  type_names : (from : ℕ) (exported : Bool) → Names true w (code.type_statement set inner from exported)
   unfolding code.type_statement
-  type_names from exported = names_then (next_names set) (λ _. choose (peeks_sees s.Function) (type_function_forked from exported) (alias_forked from exported))
+  type_names from exported = names_then (next_names set held.link) (λ _. choose (peeks_sees s.Function) (type_function_forked from exported) (alias_forked from exported))
 
-  own_prefix_names : Names w (code.own_prefix set inner)
+  restored_names : (at : ℕ) → Names true w (values.prefix set inner >>= (λ x. read.set_level at >>= (λ _. read.pure x)))
+  restored_names at = names_then (terms.prefix_names set inner w held) (λ x. both (to_level at) (λ _. done x))
+
+  own_prefix_names : Names true w (code.own_prefix set inner)
   unfolding code.own_prefix
-  own_prefix_names = record { taken = λ e ts l m b. (names_then (terms.prefix_names set inner w held) (λ x. both (to_level m) (λ _. done x))).taken e ts l m b }
+  own_prefix_names = record { taken = λ e ts l m b z. (restored_names m).taken e ts l m b z; deep = λ e ts l m b z. (restored_names m).deep e ts l m b z }
 
-  prefix_statement_names : (from : ℕ) → Names w (code.prefix_statement set inner from)
+  prefix_statement_names : (from : ℕ) → Names true w (code.prefix_statement set inner from)
   unfolding code.prefix_statement
   prefix_statement_names from = names_then own_prefix_names (behind_prefix_forked from)
 
@@ -250,16 +253,16 @@ module _ (set : Setting) (inner : Readers) (w : Fork) (held : ForkReaders w inne
   exported_forked : (from : ℕ) → Forked w 1 (exported_type from)
   exported_forked from = least 1 refl (both (any set) (λ _. type_statement_forked from true))
 
-  exported_names : (from : ℕ) → Names w (exported_type from)
-  exported_names from = names_then (next_names set) (λ _. type_statement_forked from true)
+  exported_names : (from : ℕ) → Names true w (exported_type from)
+  exported_names from = names_then (next_names set held.link) (λ _. type_statement_forked from true)
 
   pub name_forked : (from : ℕ) → Forked w 1 (code.name_statement set inner from)
   unfolding code.name_statement
   name_forked from =
-      choose2 sees_continue two_continue (word_names from tree.Continue) (names_if sees_type (type_names from false) (names_if sees_export (exported_names from) (prefix_statement_names from)))
+      either_name sees_continue two_continue (word_names from tree.Continue) (names_if sees_type (type_names from false) (names_if sees_export (exported_names from) (prefix_statement_names from)))
       (word_forked from tree.Continue)
-      (choose2 sees_type two_type (type_names from false) (names_if sees_export (exported_names from) (prefix_statement_names from)) (type_statement_forked from false)
-      (choose2 sees_export two_export (exported_names from) (prefix_statement_names from) (exported_forked from) (prefix_statement_forked from)))
+      (either_name sees_type two_type (type_names from false) (names_if sees_export (exported_names from) (prefix_statement_names from)) (type_statement_forked from false)
+      (either_name sees_export two_export (exported_names from) (prefix_statement_names from) (exported_forked from) (prefix_statement_forked from)))
 
   pub form_by_forked : (from : ℕ) (x : Symbol) → Forked w 1 (code.form_by set inner from x)
   form_by_forked from s.Name = name_forked from

@@ -34,12 +34,11 @@ module _ (set : Setting) (w : Fork) {S : Type 0} (goes : S → Place → Bool) (
   abbrev again : ℕ → S → Parser S
   again n = repeats set goes step n
 
-  pub steps_far : ((x : S) → Forked w 1 (step x)) → (m : ℕ) (x : S) (p : Place) → BeginFrom w.bound p.ahead → Far w.bound (again m x p)
+  pub steps_far : ((x : S) → Forked w 1 (step x)) → (m : ℕ) (x : S) (b : ℕ) (p : Place) → BeginFrom b p.ahead → Far b (again m x p)
   unfolding repeats
-  steps_far h zero x p l = far_if (w.bound) (goes x p) (refuse set p) (Ok (x, p)) ((refuses set {w = w} {A = S} 0).one p l) l
-  steps_far h (suc m) x p l =
-      far_if (w.bound) (goes x p) (and_then (step x p) (again m)) (Ok (x, p))
-      (far_then (w.bound) (again m) (step x p) ((h x).one p l) (λ y a. steps_far h m y a)) l
+  steps_far h zero x b p l = far_if b (goes x p) (refuse set p) (Ok (x, p)) ((refuses set {w = w} {A = S} 0).one b p l) l
+  steps_far h (suc m) x b p l =
+      far_if b (goes x p) (and_then (step x p) (again m)) (Ok (x, p)) (far_then b (again m) (step x p) ((h x).one b p l) (λ y a. steps_far h m y b a)) l
 
   steps_near : ((x : S) → Peeks w (goes x)) → ((x : S) → Forked w 1 (step x))
       → (m n : ℕ) (x : S) (p q : Place) → length p.ahead ≤ m → length q.ahead ≤ n → SamePlace w p q → Near w (again m x p) (again n x q)
@@ -52,7 +51,7 @@ module _ (set : Setting) (w : Fork) {S : Type 0} (goes : S → Place → Bool) (
       (λ y a b d e j. steps_near t h m n y a b
       (taken_of 1 m p a y (step x p) d ((h x).takes p) (omega arith))
       (taken_of 1 n q b y (step x q) e ((h x).takes q) (omega arith)) j)
-      (λ y a. steps_far h m y a) (λ y a. steps_far h n y a))
+      (λ y b a. steps_far h m y b a) (λ y b a. steps_far h n y b a))
       (λ _. inl (refl, i))
 
   steps_takes : ((x : S) → Forked w 1 (step x)) → (m : ℕ) (x : S) (p : Place) → Shorter 0 p (again m x p)
@@ -66,7 +65,7 @@ module _ (set : Setting) {w : Fork} {S : Type 0} (goes : S → Place → Bool) (
   pub steps : ((x : S) → Peeks w (goes x)) → ((x : S) → Forked w 1 (step x)) → (x : S) → Forked w 0 (repeat set goes step x)
   steps t h x = record {
     near = λ p q i. steps_near set w goes step t h (length p.ahead) (length q.ahead) x p q (omega arith) (omega arith) i;
-    one = λ p l. steps_far set w goes step h (length p.ahead) x p l;
+    one = λ b p l. steps_far set w goes step h (length p.ahead) x b p l;
     takes = λ p. steps_takes set w goes step h (length p.ahead) x p;
   }
 

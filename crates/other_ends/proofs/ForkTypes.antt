@@ -1,6 +1,7 @@
 -- The parsers of types depend on what they take.
-use Rattle.std.proofs.Common.{◌≡◌, ℕ, length, Bool, true, false, not, ◌||◌, sym, ◌∙◌, ap, ap₂, subst, if◌then◌else◌, List, [], ◌∷◌, ◌++◌, refl, codes, Option, Some, None, is_some}
-use Rattle.std.specs.Prelude.{Ok}
+use Rattle.std.proofs.Common.{◌≡◌, ℕ, Bool, true, false, ◌||◌, ◌&&◌, sym, ◌∙◌, ap, ap₂, subst, if◌then◌else◌, List, [], ◌∷◌, ◌++◌, refl, codes, Option, Some, None}
+use Rattle.std.specs.Prelude.{Ok, Err}
+use Rattle.luau_lex.specs.Tokens.{Tok}
 use Rattle.luau_tree.specs.declared.names.Access.{Access}
 use Rattle.luau_tree.specs.declared.names.Access.TheVariants.{Both, Read, Write}
 use Rattle.luau_tree.specs.Tree.{TypeSyntax, TypeKind, Prop, PropKey, Expr, Block}
@@ -9,10 +10,9 @@ use Rattle.luau_tree.specs.View.{types, gens, props}
 use Rattle.luau_grammar.specs.declared.symbol.Symbol.{Symbol}
 use Rattle.luau_grammar.specs.declared.symbol.Symbol.TheVariants as s
 use Rattle.luau_grammar.specs.Symbols.{same, symbol_of}
-use Rattle.luau_grammar.specs.Places.{Place, symbol, sees, sees_behind}
+use Rattle.luau_grammar.specs.Places.{Place, first_symbol, symbol, symbol_behind, sees, sees_behind, sees_word, start_of}
 use Rattle.luau_grammar.specs.Phrases.{Listed, in_parens}
-use Rattle.luau_grammar.specs.Lists.{sees_separator}
-use Rattle.luau_grammar.specs.Types.{sees_access, begins_property, sees_typeof, begins_tail, is_type_front, pack_of, begins_named, begin_of, goes_on}
+use Rattle.luau_grammar.specs.Types.{sees_access, begins_property, sees_typeof, begins_tail, pack_of, begins_named, begin_of}
 use Rattle.luau_grammar.specs.Expressions as expressions
 use Rattle.luau_grammar.specs.Statements as statements
 use Rattle.luau_grammar.specs.Reading as read
@@ -20,82 +20,27 @@ use Rattle.luau_grammar.specs.Reading.{Setting, Parser, Outcome, Readers, ◌>>=
 use Rattle.luau_grammar.specs.ReadPhrases as phrases
 use Rattle.luau_grammar.specs.ReadTypes as code
 use Rattle.luau_grammar.specs.ReadTypes.{Members, Braced, goes_braced, goes_members, goes_marks, goes_options}
-use Rattle.other_ends.proofs.Fork.{Fork, Forked, Peeks, Peeks2, Names, Taken, here, taken_then, both, choose, choose2, least, done, given, at_start, at_last, at_here, at_span, to_level, peeks_sees, peeks_const, peeks_of, peeks_and, peeks_or, peeks_symbol, peeks_start}
+use Rattle.other_ends.proofs.Fork.{Fork, Forked, Peeks, Names, Link, IsDeep, Far, BeyondOf, perhaps, here, beyond_then, both, choose, choose2, either_name, least, done, given, at_start, at_last, at_here, at_span, to_level, peeks_sees, peeks_const, peeks_of, peeks_and, peeks_or, peeks_symbol, peeks_start}
 use Rattle.other_ends.proofs.ForkCases.{by_symbol}
-use Rattle.other_ends.proofs.ForkNames.{two_of, two_or, two_name, two_word, behind_sees, behind_or, only_name, name_is, then_if, name_names, next_names, expect_names, names_then, names_start, names_if, names_else, forked_by}
+use Rattle.other_ends.proofs.ForkNames.{two_of, two_or, only_name, name_is, then_if, name_names, next_names, expect_names, name_beyond, next_beyond, expect_beyond, names_then, names_start, names_if, names_else, forked_by}
 use Rattle.other_ends.proofs.ForkTokens.{refuses, any, token, eaten, a_name, a_string, raises, phrased, phrase_names}
-use Rattle.other_ends.proofs.ForkSteps.{steps, steps_far, in_list}
+use Rattle.other_ends.proofs.ForkSteps.{steps, in_list}
+pub use Rattle.other_ends.proofs.ForkBraces.{no_braced, right_of, left_of, left_or, right_or, pure_case, peeks_goes_on, peeks_front, two_named, two_tail, two_access, two_property, two_typeof, peeks_separator, peeks_braced, peeks_members, separator_forked, one_braced_forked, braced_forked, one_braced_names, braced_names, braced_beyond}
+
+abbrev at_rest : List Tok → ℕ → ℕ → Place
+at_rest ts l m = record { ahead = ts; last = l; level = m }
 
 -- the parsers of phrases that hold one another depend on what they take
-pub record ForkReaders (w : Fork) (r : Readers) : Type 0 where
+pub record ForkReaders (set : Setting) (w : Fork) (r : Readers) : Type 0 where
+  pub link : Link set w
   pub exp : Forked w 1 (r.exp)
   pub typ : Forked w 1 (r.typ None)
   pub begun : (l : Listed) → Forked w 0 (r.typ (Some l))
   pub block : Forked w 0 (r.block)
-  pub exp_named : Names w (r.exp)
-  pub typ_named : Names w (r.typ None)
+  pub exp_named : Names false w (r.exp)
+  pub typ_named : Names false w (r.typ None)
 
-module _ {w : Fork} where
-  peeks_goes_on : Peeks w goes_on
-  peeks_goes_on = peeks_or (peeks_sees s.Question) (peeks_or (peeks_sees s.Pipe) (peeks_sees s.Ampersand))
-
-  peeks_front : (l : Listed) → Peeks w (is_type_front l)
-  peeks_front l = peeks_or (peeks_sees s.Arrow) (peeks_and (peeks_const (is_some (in_parens l))) peeks_goes_on)
-
-  pub two_named : Peeks2 w begins_named
-  two_named = two_name (sees_behind s.Colon) (behind_sees s.Colon)
-
-  pub two_tail : Peeks2 w begins_tail
-  two_tail = two_or (two_of (peeks_sees s.Dots)) (two_name (sees_behind s.Dots) (behind_sees s.Dots))
-
-  two_access : (word : List ℕ) → Peeks2 w (sees_access word)
-  two_access word = two_word word (λ p. sees_behind s.Name p || sees_behind s.LeftBracket p) (behind_or (behind_sees s.Name) (behind_sees s.LeftBracket))
-
-  two_property : Peeks2 w begins_property
-  two_property =
-      two_or (two_or (two_of (peeks_sees s.LeftBracket)) (two_name (sees_behind s.Colon) (behind_sees s.Colon)))
-      (two_or (two_access (codes "read")) (two_access (codes "write")))
-
-  two_typeof : Peeks2 w sees_typeof
-  two_typeof = two_word (codes "typeof") (sees_behind s.LeftParen) (behind_sees s.LeftParen)
-
-  peeks_separator : Peeks w sees_separator
-  peeks_separator = peeks_or (peeks_sees s.Comma) (peeks_sees s.Semicolon)
-
-  peeks_braced : {A : Type 0} (found : Braced A) → Peeks w (goes_braced found)
-  peeks_braced found = peeks_and (peeks_const found.open_ended) (peeks_of not (peeks_sees s.RightBrace))
-
-  peeks_members : (found : Members) → Peeks w (goes_members found)
-  peeks_members found = peeks_and (peeks_const (not found.tailed)) (peeks_sees s.Comma)
-
-module _ (set : Setting) {w : Fork} where
-  pub separator_forked : Forked w 0 (code.separator set)
-  unfolding code.separator
-  separator_forked = choose peeks_separator (least 0 refl (both (any set) (λ _. done true))) (done false)
-
-  pub one_braced_forked : {A : Type 0} {item : Parser A} → Forked w 1 item → (found : Braced A) → Forked w 1 (code.one_braced set item found)
-  one_braced_forked h found =
-      least 1 refl (both h (λ x. both separator_forked (λ more. done (record { items = found.items ++ x ∷ []; open_ended = more }))))
-
-  pub braced_forked : {A : Type 0} {item : Parser A} → Forked w 1 item → Forked w 0 (code.braced set item)
-  unfolding code.braced
-  braced_forked {A = A} {item = item} h =
-      steps set goes_braced (code.one_braced set item) peeks_braced (one_braced_forked h) (record { items = []; open_ended = true })
-
-  pub braced_names : {A : Type 0} {item : Parser A} → Forked w 1 item → Names w item → Names w (code.braced set item)
-  unfolding code.braced read.repeats sees symbol same
-  braced_names {A = A} {item = item} h k = record {
-    taken = λ e ts l m b.
-        let p = here w.token ts l m in
-        let none : Braced A = record { items = []; open_ended = true } in
-        subst (λ z. Taken w.bound (if not z then and_then (code.one_braced set item none p) (read.repeats set goes_braced (code.one_braced set item) (length ts)) else Ok (none, p)))
-        (sym (only_name (symbol_of w.token) s.RightBrace e refl))
-        (taken_then w.bound (read.repeats set goes_braced (code.one_braced set item) (length ts)) (code.one_braced set item none p)
-        ((names_then k (λ x. both separator_forked (λ more. done (record { items = none.items ++ x ∷ []; open_ended = more })))).taken e ts l m b)
-        (λ x q c. steps_far set w goes_braced (code.one_braced set item) (one_braced_forked h) (length ts) x q c));
-  }
-
-module _ (set : Setting) (inner : Readers) (w : Fork) (held : ForkReaders w inner) where
+module _ (set : Setting) (inner : Readers) (w : Fork) (held : ForkReaders set w inner) where
   pub exp_forked : Forked w 1 (phrases.expression set inner)
   unfolding phrases.expression
   exp_forked = phrased set phrases.may_begin_expression (peeks_of expressions.begins peeks_symbol) (held.exp)
@@ -112,13 +57,13 @@ module _ (set : Setting) (inner : Readers) (w : Fork) (held : ForkReaders w inne
   unfolding phrases.block
   block_forked = phrased set phrases.may_begin_block (peeks_of statements.begins peeks_symbol) (held.block)
 
-  pub exp_names : Names w (phrases.expression set inner)
+  pub exp_names : Names false w (phrases.expression set inner)
   unfolding phrases.expression symbol
-  exp_names = phrase_names set phrases.may_begin_expression (λ e ts l m. ap expressions.begins (name_is (symbol_of w.token) e)) held.exp_named
+  exp_names = phrase_names set held.link phrases.may_begin_expression (λ e ts l m. ap expressions.begins (name_is (symbol_of w.token) e)) held.exp_named
 
-  pub typ_names : Names w (phrases.typ set inner None)
+  pub typ_names : Names false w (phrases.typ set inner None)
   unfolding phrases.typ symbol
-  typ_names = phrase_names set (phrases.may_begin_type None) (λ e ts l m. ap phrases.begins_type (name_is (symbol_of w.token) e)) held.typ_named
+  typ_names = phrase_names set held.link (phrases.may_begin_type None) (λ e ts l m. ap phrases.begins_type (name_is (symbol_of w.token) e)) held.typ_named
 
   pub variadic_forked : Forked w 1 (code.variadic set inner)
   unfolding code.variadic
@@ -130,11 +75,30 @@ module _ (set : Setting) (inner : Readers) (w : Fork) (held : ForkReaders w inne
   generic_pack_forked =
       least 1 refl (both at_start (λ from. both (a_name set) (λ name. both (token set s.Dots) (λ _. both (at_span from) (λ span. done (tree.the_type span (tree.GenericPack name)))))))
 
-  pub generic_pack_names : Names w (code.generic_pack set inner)
+  pub generic_pack_names : Names true w (code.generic_pack set inner)
   unfolding code.generic_pack
-  generic_pack_names = names_start (λ from. names_then (name_names set) (λ name. both (token set s.Dots) (λ _. both (at_span from) (λ span. done (tree.the_type span (tree.GenericPack name))))))
+  generic_pack_names = names_start (λ from. names_then (name_names set held.link) (λ name. both (token set s.Dots) (λ _. both (at_span from) (λ span. done (tree.the_type span (tree.GenericPack name))))))
 
-  pub tail_names : Names w (code.tail set inner)
+  pub generic_pack_beyond : same (symbol_of w.token) s.Name ≡ true → (l m : ℕ) → (sees s.Name (here w.token w.one l m) && sees_behind s.Dots (here w.token w.one l m)) ≡ true → w.stands m ≡ true
+      → BeyondOf w.one (code.generic_pack set inner (here w.token w.one l m))
+  unfolding code.generic_pack sees_behind symbol_behind same
+  generic_pack_beyond e l m c z =
+      name_beyond set held.link s.Dots refl (λ n t. both (at_span (start_of (here w.token w.one l m))) (λ span. done (tree.the_type span (tree.GenericPack n)))) e l m
+      (right_of (sees s.Name (here w.token w.one l m)) (same (first_symbol w.one) s.Dots) c) z
+
+  tail_is : same (symbol_of w.token) s.Name ≡ true → (l m : ℕ) → code.tail set inner (here w.token w.one l m) ≡ code.generic_pack set inner (here w.token w.one l m)
+  unfolding code.tail sees symbol same
+  tail_is e l m =
+      ap (λ b. if b then code.variadic set inner (here w.token w.one l m) else code.generic_pack set inner (here w.token w.one l m)) (only_name (symbol_of w.token) s.Dots e refl)
+
+  tail_test : same (symbol_of w.token) s.Name ≡ true → (l m : ℕ) → begins_tail (here w.token w.one l m) ≡ true → (sees s.Name (here w.token w.one l m) && sees_behind s.Dots (here w.token w.one l m)) ≡ true
+  unfolding sees symbol same
+  tail_test e l m c = right_or (same (symbol_of w.token) s.Dots) (same (symbol_of w.token) s.Name && sees_behind s.Dots (here w.token w.one l m)) (only_name (symbol_of w.token) s.Dots e refl) c
+
+  pub tail_beyond : same (symbol_of w.token) s.Name ≡ true → (l m : ℕ) → begins_tail (here w.token w.one l m) ≡ true → w.stands m ≡ true → BeyondOf w.one (code.tail set inner (here w.token w.one l m))
+  tail_beyond e l m c z = subst (λ o. BeyondOf w.one o) (sym (tail_is e l m)) (generic_pack_beyond e l m (tail_test e l m c) z)
+
+  pub tail_names : Names true w (code.tail set inner)
   unfolding code.tail same
   tail_names = names_else s.Dots (code.variadic set inner) refl generic_pack_names
 
@@ -154,8 +118,26 @@ module _ (set : Setting) (inner : Readers) (w : Fork) (held : ForkReaders w inne
   colon_name_forked : Forked w 1 colon_name
   colon_name_forked = least 1 refl (both (both (a_name set) (λ _. token set s.Colon)) (λ _. done true))
 
-  colon_name_names : Names w colon_name
-  colon_name_names = names_then (names_then (name_names set) (λ _. token set s.Colon)) (λ _. done true)
+  colon_name_names : Names true w colon_name
+  colon_name_names = names_then (names_then (name_names set held.link) (λ _. token set s.Colon)) (λ _. done true)
+
+  colon_end : (o : Outcome (List ℕ)) → and_then o (λ _. read.expect set s.Colon >>= (λ t. pure t)) ≡ and_then o (λ _. read.expect set s.Colon)
+  colon_end (Ok x) = pure_case (read.expect set s.Colon x.1)
+  colon_end (Err e) = refl
+
+  name_colon_beyond : same (symbol_of w.token) s.Name ≡ true → (l m : ℕ) → same (first_symbol w.one) s.Colon ≡ true → w.stands m ≡ true → BeyondOf w.one ((read.name set >>= (λ _. read.expect set s.Colon)) (here w.token w.one l m))
+  unfolding same
+  name_colon_beyond e l m d z =
+      subst (λ o. BeyondOf w.one o) (colon_end (read.name set (here w.token w.one l m))) (name_beyond set held.link s.Colon refl (λ _ t. done t) e l m d z)
+
+  colon_name_beyond : (found : Members) → same (symbol_of w.token) s.Name ≡ true → (l m : ℕ) → begins_named (here w.token w.one l m) ≡ true → w.stands m ≡ true
+      → BeyondOf w.one ((colon_name >>= named_member found) (here w.token w.one l m))
+  unfolding sees_behind symbol_behind same
+  colon_name_beyond found e l m c z =
+      beyond_then w.one (named_member found) (colon_name (here w.token w.one l m))
+      (beyond_then w.one (λ _. pure true) ((read.name set >>= (λ _. read.expect set s.Colon)) (here w.token w.one l m))
+      (name_colon_beyond e l m (right_of (sees s.Name (here w.token w.one l m)) (same (first_symbol w.one) s.Colon) c) z) (λ _. (done {w = w} true).one))
+      (λ x. (named_member_forked found x).one)
 
   abbrev chosen_member : Members → Parser Members
   chosen_member found p = if begins_named p then and_then (colon_name p) (named_member found) else named_member found false p
@@ -172,9 +154,12 @@ module _ (set : Setting) (inner : Readers) (w : Fork) (held : ForkReaders w inne
       forked_by (same_member found)
       (choose2 begins_tail two_tail
       (names_then tail_names (λ t. done (record { types = found.types ++ t ∷ []; named = found.named; tailed = true })))
-      (names_if begins_named (names_then colon_name_names (named_member_forked found)) (names_then typ_names (λ t. done (record { types = found.types ++ t ∷ []; named = found.named || false; tailed = false }))))
+      (names_if begins_named (perhaps (names_then colon_name_names (named_member_forked found))) (names_then typ_names (λ t. done (record { types = found.types ++ t ∷ []; named = found.named || false; tailed = false }))))
+      (λ e l m c z. beyond_then w.one (λ t. pure (record { types = found.types ++ t ∷ []; named = found.named; tailed = true })) (code.tail set inner (here w.token w.one l m)) (tail_beyond e l m c z)
+      (λ t. (done {w = w} {A = Members} (record { types = found.types ++ t ∷ []; named = found.named; tailed = true })).one))
       (least 1 refl (both tail_forked (λ t. done (record { types = found.types ++ t ∷ []; named = found.named; tailed = true }))))
       (choose2 begins_named two_named (names_then colon_name_names (named_member_forked found)) (names_then typ_names (λ t. done (record { types = found.types ++ t ∷ []; named = found.named || false; tailed = false })))
+      (colon_name_beyond found)
       (least 1 refl (both colon_name_forked (named_member_forked found))) (named_member_forked found false)))
 
   pub another_member_forked : (found : Members) → Forked w 1 (code.another_member set inner found)
@@ -206,7 +191,7 @@ module _ (set : Setting) (inner : Readers) (w : Fork) (held : ForkReaders w inne
   pub result_forked : Forked w 1 (code.result set inner)
   unfolding code.result
   result_forked =
-      choose (peeks_sees s.LeftParen) (least 1 refl (both listed_forked after_list_forked)) (choose2 begins_tail two_tail tail_names typ_names tail_forked typ_forked)
+      choose (peeks_sees s.LeftParen) (least 1 refl (both listed_forked after_list_forked)) (choose2 begins_tail two_tail tail_names typ_names tail_beyond tail_forked typ_forked)
 
   pub maybe_results_forked : Forked w 0 (code.maybe_results set inner)
   unfolding code.maybe_results
@@ -250,9 +235,9 @@ module _ (set : Setting) (inner : Readers) (w : Fork) (held : ForkReaders w inne
   unfolding code.key
   key_forked = choose (peeks_sees s.LeftBracket) indexer_forked property_name_forked
 
-  key_names : Names w (code.key set inner)
+  key_names : Names true w (code.key set inner)
   unfolding code.key code.property_name same
-  key_names = names_else s.LeftBracket (code.indexer set inner) refl (names_then (name_names set) (λ name. both (token set s.Colon) (λ _. done (tree.NameKey name))))
+  key_names = names_else s.LeftBracket (code.indexer set inner) refl (names_then (name_names set held.link) (λ name. both (token set s.Colon) (λ _. done (tree.NameKey name))))
 
   abbrev keyed : Access → Parser Prop
   keyed how = code.key set inner >>= (λ what. phrases.typ set inner None >>= (λ t. pure (tree.the_prop how what t)))
@@ -263,14 +248,14 @@ module _ (set : Setting) (inner : Readers) (w : Fork) (held : ForkReaders w inne
   abbrev word_access : Access → Parser Access
   word_access how = read.next set >> pure how
 
-  keyed_names : Names w (keyed Both)
+  keyed_names : Names true w (keyed Both)
   keyed_names = names_then key_names (λ what. both typ_forked (λ t. done (tree.the_prop Both what t)))
 
   worded_forked : (how : Access) → Forked w 1 (λ p. and_then (word_access how p) keyed)
   worded_forked how = least 1 refl (both (both (any set) (λ _. done how)) keyed_forked)
 
-  worded_names : (how : Access) → Names w (λ p. and_then (word_access how p) keyed)
-  worded_names how = names_then (names_then (next_names set) (λ _. done how)) keyed_forked
+  worded_names : (how : Access) → Names true w (λ p. and_then (word_access how p) keyed)
+  worded_names how = names_then (names_then (next_names set held.link) (λ _. done how)) keyed_forked
 
   abbrev written : Parser Prop
   written p = if sees_access (codes "write") p then and_then (word_access Write p) keyed else keyed Both p
@@ -281,19 +266,89 @@ module _ (set : Setting) (inner : Readers) (w : Fork) (held : ForkReaders w inne
       then_if (sees_access (codes "read") p) (word_access Read p) (if sees_access (codes "write") p then word_access Write p else Ok (Both, p)) keyed
       ∙ ap (λ z. if sees_access (codes "read") p then and_then (word_access Read p) keyed else z) (then_if (sees_access (codes "write") p) (word_access Write p) (Ok (Both, p)) keyed)
 
-  written_names : Names w written
+  written_names : Names true w written
   written_names = names_if (sees_access (codes "write")) (worded_names Write) keyed_names
 
-  chosen_property_names : Names w (λ p. if sees_access (codes "read") p then and_then (word_access Read p) keyed else written p)
+  chosen_property_names : Names true w (λ p. if sees_access (codes "read") p then and_then (word_access Read p) keyed else written p)
   chosen_property_names = names_if (sees_access (codes "read")) (worded_names Read) written_names
 
   pub property_forked : Forked w 1 (code.property set inner)
   property_forked =
-      forked_by same_property (choose2 (sees_access (codes "read")) (two_access (codes "read")) (worded_names Read) written_names (worded_forked Read)
-      (choose2 (sees_access (codes "write")) (two_access (codes "write")) (worded_names Write) keyed_names (worded_forked Write) (keyed_forked Both)))
+      forked_by same_property (either_name (sees_access (codes "read")) (two_access (codes "read")) (worded_names Read) written_names (worded_forked Read)
+      (either_name (sees_access (codes "write")) (two_access (codes "write")) (worded_names Write) keyed_names (worded_forked Write) (keyed_forked Both)))
 
-  property_names : Names w (code.property set inner)
-  property_names = record { taken = λ e ts l m b. subst (λ o. Taken w.bound o) (sym (same_property (here w.token ts l m))) (chosen_property_names.taken e ts l m b) }
+  property_names : Names true w (code.property set inner)
+  property_names = record {
+    taken = λ e ts l m b z. subst (λ o. Far w.bound o) (sym (same_property (here w.token ts l m))) (chosen_property_names.taken e ts l m b z);
+    deep = λ e ts l m b z. subst (λ o. IsDeep o) (sym (same_property (here w.token ts l m))) (chosen_property_names.deep e ts l m b z);
+  }
+
+  -- a property takes the token behind its name
+  abbrev behind_bracket : Parser PropKey
+  behind_bracket = phrases.typ set inner None >>= (λ t. read.expect set s.RightBracket >>= (λ _. read.expect set s.Colon >>= (λ _. pure (tree.Indexer t))))
+
+  behind_bracket_forked : Forked w 1 behind_bracket
+  behind_bracket_forked = least 1 refl (both typ_forked (λ t. both (token set s.RightBracket) (λ _. both (token set s.Colon) (λ _. done (tree.Indexer t)))))
+
+  named_key_forked : (name : List ℕ) → Forked w 1 (read.expect set s.Colon >>= (λ _. pure (tree.NameKey name)))
+  named_key_forked name = least 1 refl (both (token set s.Colon) (λ _. done (tree.NameKey name)))
+
+  key_second : (l m : ℕ) (b : Bool) → same (first_symbol w.one) s.LeftBracket ≡ b → (same (first_symbol w.one) s.Name || same (first_symbol w.one) s.LeftBracket) ≡ true
+      → BeyondOf w.one (if b then (read.expect set s.LeftBracket >>= (λ _. behind_bracket)) (at_rest w.one l m) else (read.name set >>= (λ name. read.expect set s.Colon >>= (λ _. pure (tree.NameKey name)))) (at_rest w.one l m))
+  unfolding read.name same
+  key_second l m true d c =
+      beyond_then w.one (λ _. behind_bracket) (read.expect set s.LeftBracket (at_rest w.one l m)) (expect_beyond set s.LeftBracket w.one l m w.one_next refl d) (λ _. behind_bracket_forked.one)
+  key_second l m false d c =
+      beyond_then w.one (λ name. read.expect set s.Colon >>= (λ _. pure (tree.NameKey name))) (read.name set (at_rest w.one l m))
+      (beyond_then w.one (λ t. pure t.bytes) (read.expect set s.Name (at_rest w.one l m))
+      (expect_beyond set s.Name w.one l m w.one_next refl (left_or (same (first_symbol w.one) s.Name) (same (first_symbol w.one) s.LeftBracket) d c)) (λ t. (done {w = w} t.bytes).one))
+      (λ name. (named_key_forked name).one)
+
+  key_beyond : (l m : ℕ) → (same (first_symbol w.one) s.Name || same (first_symbol w.one) s.LeftBracket) ≡ true → BeyondOf w.one (code.key set inner (at_rest w.one l m))
+  unfolding code.key code.indexer code.property_name sees symbol
+  key_beyond l m c = key_second l m (same (first_symbol w.one) s.LeftBracket) refl c
+
+  behind_key_forked : (how : Access) (what : PropKey) → Forked w 1 (phrases.typ set inner None >>= (λ t. pure (tree.the_prop how what t)))
+  behind_key_forked how what = least 1 refl (both typ_forked (λ t. done (tree.the_prop how what t)))
+
+  then_word : (how : Access) (o : Outcome Tok) → and_then o (λ _. keyed how) ≡ and_then (and_then o (λ _. pure how)) keyed
+  then_word how (Ok x) = refl
+  then_word how (Err e) = refl
+
+  worded_beyond : (how : Access) (l m : ℕ) → w.stands m ≡ true → (same (first_symbol w.one) s.Name || same (first_symbol w.one) s.LeftBracket) ≡ true → BeyondOf w.one (and_then (word_access how (here w.token w.one l m)) keyed)
+  worded_beyond how l m z c =
+      subst (λ o. BeyondOf w.one o) (then_word how (read.next set (here w.token w.one l m)))
+      (next_beyond set held.link (λ _. keyed how) l m z (beyond_then w.one (λ what. phrases.typ set inner None >>= (λ t. pure (tree.the_prop how what t))) (code.key set inner (at_rest w.one w.token.span.end m)) (key_beyond w.token.span.end m c)
+      (λ what. (behind_key_forked how what).one)))
+
+  named_property_beyond : same (symbol_of w.token) s.Name ≡ true → (l m : ℕ) → same (first_symbol w.one) s.Colon ≡ true → w.stands m ≡ true → BeyondOf w.one (keyed Both (here w.token w.one l m))
+  unfolding code.key code.property_name sees symbol same
+  named_property_beyond e l m d z =
+      beyond_then w.one (λ what. phrases.typ set inner None >>= (λ t. pure (tree.the_prop Both what t))) (code.key set inner (here w.token w.one l m))
+      (subst (λ b. BeyondOf w.one (if b then code.indexer set inner (here w.token w.one l m) else (read.name set >>= (λ name. read.expect set s.Colon >>= (λ _. pure (tree.NameKey name)))) (here w.token w.one l m)))
+      (sym (only_name (symbol_of w.token) s.LeftBracket e refl)) (name_beyond set held.link s.Colon refl (λ name _. done (tree.NameKey name)) e l m d z))
+      (λ what. (behind_key_forked Both what).one)
+
+  property_case : same (symbol_of w.token) s.Name ≡ true → (l m : ℕ) → begins_property (here w.token w.one l m) ≡ true → w.stands m ≡ true
+      → (a : Bool) → sees_access (codes "read") (here w.token w.one l m) ≡ a → (b : Bool) → sees_access (codes "write") (here w.token w.one l m) ≡ b
+      → BeyondOf w.one (if a then and_then (word_access Read (here w.token w.one l m)) keyed else (if b then and_then (word_access Write (here w.token w.one l m)) keyed else keyed Both (here w.token w.one l m)))
+  unfolding sees_behind symbol_behind sees symbol same
+  property_case e l m c z true d b k =
+      worded_beyond Read l m z (right_of (sees_word (codes "read") (here w.token w.one l m)) (same (first_symbol w.one) s.Name || same (first_symbol w.one) s.LeftBracket) d)
+  property_case e l m c z false d true k =
+      worded_beyond Write l m z (right_of (sees_word (codes "write") (here w.token w.one l m)) (same (first_symbol w.one) s.Name || same (first_symbol w.one) s.LeftBracket) k)
+  property_case e l m c z false d false k =
+      let bracket = same (symbol_of w.token) s.LeftBracket in
+      let colon = same (symbol_of w.token) s.Name && same (first_symbol w.one) s.Colon in
+      named_property_beyond e l m
+      (right_of (same (symbol_of w.token) s.Name) (same (first_symbol w.one) s.Colon)
+      (right_or bracket colon (only_name (symbol_of w.token) s.LeftBracket e refl)
+      (left_or (bracket || colon) (sees_access (codes "read") (here w.token w.one l m) || sees_access (codes "write") (here w.token w.one l m)) (ap₂ (λ x y. x || y) d k) c))) z
+
+  property_beyond : same (symbol_of w.token) s.Name ≡ true → (l m : ℕ) → begins_property (here w.token w.one l m) ≡ true → w.stands m ≡ true → BeyondOf w.one (code.property set inner (here w.token w.one l m))
+  property_beyond e l m c z =
+      subst (λ o. BeyondOf w.one o) (sym (same_property (here w.token w.one l m)))
+      (property_case e l m c z (sees_access (codes "read") (here w.token w.one l m)) refl (sees_access (codes "write") (here w.token w.one l m)) refl)
 
   pub array_forked : (from : ℕ) → Forked w 1 (code.array set inner from)
   unfolding code.array
@@ -304,20 +359,32 @@ module _ (set : Setting) (inner : Readers) (w : Fork) (held : ForkReaders w inne
   table_forked from =
       least 1 refl (both (braced_forked set property_forked) (λ found. both (token set s.RightBrace) (λ _. both (at_span from) (λ span. done (tree.the_type span (tree.TableType (props found.items)))))))
 
-  array_names : (from : ℕ) → Names w (code.array set inner from)
+  array_names : (from : ℕ) → Names false w (code.array set inner from)
   unfolding code.array
   array_names from = names_then typ_names (λ t. both (token set s.RightBrace) (λ _. both (at_span from) (λ span. done (tree.the_type span (tree.Array t)))))
 
-  table_names : (from : ℕ) → Names w (code.table set inner from)
+  table_names : (from : ℕ) → Names true w (code.table set inner from)
   unfolding code.table
   table_names from =
       names_then (braced_names set property_forked property_names) (λ found. both (token set s.RightBrace) (λ _. both (at_span from) (λ span. done (tree.the_type span (tree.TableType (props found.items))))))
+
+  brace_test : same (symbol_of w.token) s.Name ≡ true → (l m : ℕ) → (sees s.RightBrace (here w.token w.one l m) || begins_property (here w.token w.one l m)) ≡ true → begins_property (here w.token w.one l m) ≡ true
+  unfolding sees symbol same
+  brace_test e l m c = right_or (same (symbol_of w.token) s.RightBrace) (begins_property (here w.token w.one l m)) (only_name (symbol_of w.token) s.RightBrace e refl) c
+
+  table_beyond : (from : ℕ) → same (symbol_of w.token) s.Name ≡ true → (l m : ℕ) → (sees s.RightBrace (here w.token w.one l m) || begins_property (here w.token w.one l m)) ≡ true → w.stands m ≡ true
+      → BeyondOf w.one (code.table set inner from (here w.token w.one l m))
+  unfolding code.table same
+  table_beyond from e l m c z =
+      beyond_then w.one (λ found. read.expect set s.RightBrace >>= (λ _. read.span_from from >>= (λ span. pure (tree.the_type span (tree.TableType (props found.items)))))) (code.braced set (code.property set inner) (here w.token w.one l m))
+      (braced_beyond set property_forked e l m (property_beyond e l m (brace_test e l m c) z))
+      (λ found. (both {w = w} (token set s.RightBrace) (λ _. both (at_span from) (λ span. done (tree.the_type span (tree.TableType (props found.items)))))).one)
 
   pub table_or_array_forked : Forked w 1 (code.table_or_array set inner)
   unfolding code.table_or_array
   table_or_array_forked =
       least 1 refl (both at_start (λ from. both (token set s.LeftBrace) (λ _.
-      choose2 (λ p. sees s.RightBrace p || begins_property p) (two_or (two_of (peeks_sees s.RightBrace)) two_property) (table_names from) (array_names from) (table_forked from) (array_forked from))))
+      choose2 (λ p. sees s.RightBrace p || begins_property p) (two_or (two_of (peeks_sees s.RightBrace)) two_property) (table_names from) (array_names from) (table_beyond from) (table_forked from) (array_forked from))))
 
   pub typeof_forked : Forked w 1 (code.typeof_form set inner)
   unfolding code.typeof_form
@@ -358,23 +425,23 @@ module _ (set : Setting) (inner : Readers) (w : Fork) (held : ForkReaders w inne
   unfolding code.literal
   literal_forked = least 1 refl (both at_start (λ from. both (a_string set s.Text) (λ value. both (at_span from) (λ span. done (tree.the_type span (tree.StrType value))))))
 
-  typeof_names : Names w (code.typeof_form set inner)
+  typeof_names : Names true w (code.typeof_form set inner)
   unfolding code.typeof_form
   typeof_names =
-      names_start (λ from. names_then (expect_names set) (λ _. both (token set s.LeftParen) (λ _. both exp_forked (λ e. both (token set s.RightParen) (λ _. both (at_span from) (λ span.
+      names_start (λ from. names_then (expect_names set held.link) (λ _. both (token set s.LeftParen) (λ _. both exp_forked (λ e. both (token set s.RightParen) (λ _. both (at_span from) (λ span.
       done (tree.the_type span (tree.Typeof e))))))))
 
-  named_names : Names w (code.named set inner)
+  named_names : Names true w (code.named set inner)
   unfolding code.named
-  named_names = names_start (λ from. names_then (name_names set) (λ first. named_behind_forked from first))
+  named_names = names_start (λ from. names_then (name_names set held.link) (λ first. named_behind_forked from first))
 
-  name_form_names : Names w (code.name_form set inner)
+  name_form_names : Names true w (code.name_form set inner)
   unfolding code.name_form
   name_form_names = names_if sees_typeof typeof_names named_names
 
   pub name_form_forked : Forked w 1 (code.name_form set inner)
   unfolding code.name_form
-  name_form_forked = choose2 sees_typeof two_typeof typeof_names named_names typeof_forked named_forked
+  name_form_forked = either_name sees_typeof two_typeof typeof_names named_names typeof_forked named_forked
 
   pub form_by_forked : (x : Symbol) → Forked w 1 (code.form_by set inner x)
   form_by_forked s.Nil = word_forked tree.NilType
@@ -477,34 +544,39 @@ module _ (set : Setting) (inner : Readers) (w : Fork) (held : ForkReaders w inne
 
   -- ---- a type that begins with a name
 
-  form_names : Names w (code.form set inner)
+  form_names : Names true w (code.form set inner)
   unfolding code.form symbol
   form_names = record {
-    taken = λ e ts l m b. subst (λ x. Taken w.bound (code.form_by set inner x (here w.token ts l m))) (sym (name_is (symbol_of w.token) e)) (name_form_names.taken e ts l m b);
+    taken = λ e ts l m b z. subst (λ x. Far w.bound (code.form_by set inner x (here w.token ts l m))) (sym (name_is (symbol_of w.token) e)) (name_form_names.taken e ts l m b z);
+    deep = λ e ts l m b z. subst (λ x. IsDeep (code.form_by set inner x (here w.token ts l m))) (sym (name_is (symbol_of w.token) e)) (name_form_names.deep e ts l m b z);
   }
 
-  basic_names : Names w (code.basic set inner None)
+  basic_names : Names true w (code.basic set inner None)
   unfolding code.basic same
   basic_names = names_else s.LeftParen (code.listed set inner >>= code.listed_type set inner) refl form_names
 
   abbrev optioned : ℕ → Parser TypeSyntax
   optioned from = code.option set inner None >>= (λ first. code.joined set inner from first)
 
-  option_names : Names w (code.option set inner None)
+  option_names : Names true w (code.option set inner None)
   unfolding code.option
   option_names = names_start (λ from. names_then basic_names (λ t. marks_forked from t))
 
   abbrev barred : Unit {0} → Parser TypeSyntax
   barred _ = start >>= optioned
 
-  barred_names : Names w (barred tt)
+  barred_names : Names true w (barred tt)
   barred_names = names_start (λ from. names_then option_names (λ first. joined_forked from first))
 
-  pub type_inside_names : Names w (code.type_inside set inner None)
+  pub type_inside_names : Names true w (code.type_inside set inner None)
   unfolding code.type_inside code.bar sees symbol same
   type_inside_names = record {
-    taken = λ e ts l m b.
+    taken = λ e ts l m b z.
         let p = here w.token ts l m in
-        subst (λ z. Taken w.bound (and_then (if z then (read.next set >> pure (tt {0})) p else Ok (tt {0}, p)) barred))
-        (sym (ap₂ (λ x y. x || y) (only_name (symbol_of w.token) s.Pipe e refl) (only_name (symbol_of w.token) s.Ampersand e refl))) (barred_names.taken e ts l m b);
+        subst (λ c. Far w.bound (and_then (if c then (read.next set >> pure (tt {0})) p else Ok (tt {0}, p)) barred))
+        (sym (ap₂ (λ x y. x || y) (only_name (symbol_of w.token) s.Pipe e refl) (only_name (symbol_of w.token) s.Ampersand e refl))) (barred_names.taken e ts l m b z);
+    deep = λ e ts l m b z.
+        let p = here w.token ts l m in
+        subst (λ c. IsDeep (and_then (if c then (read.next set >> pure (tt {0})) p else Ok (tt {0}, p)) barred))
+        (sym (ap₂ (λ x y. x || y) (only_name (symbol_of w.token) s.Pipe e refl) (only_name (symbol_of w.token) s.Ampersand e refl))) (barred_names.deep e ts l m b z);
   }

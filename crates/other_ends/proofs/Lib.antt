@@ -3,6 +3,7 @@ pub mod ForkCases
 pub mod ForkTokens
 pub mod ForkSteps
 pub mod ForkNames
+pub mod ForkBraces
 pub mod ForkTypes
 pub mod ForkExpressions
 pub mod ForkOperators
