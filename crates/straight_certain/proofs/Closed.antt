@@ -1,26 +1,32 @@
--- A layer whose loops are spent at once does with straight code what the layer does.
+-- A layer whose loops are spent at once, but for `while` and `repeat`, does with straight code what the layer does.
 use Rattle.std.proofs.Common.{◌≡◌, ℕ, true, if◌then◌else◌, List, ◌∷◌, Option, Some, None, [], refl, ◌∙◌, ap}
 use Rattle.luau_values.specs.Value.{Value, Tab}
 use Rattle.luau_values.specs.Heap as heaps
 use Rattle.luau_tree.specs.Tree.{Expr, the_expr, Exprs, no_exprs, more_exprs, ExprKind, NilExpr, TrueExpr, FalseExpr, NumberExpr, StrExpr, Vararg, FunctionExpr, NameExpr, Index, At, Call, Method, Paren, Unary, Binary, IfElse, TableExpr, Interp, Assert, Choices, no_choices, more_choices, Field, Keyed, Plain, Items, no_items, more_items}
-use Rattle.luau_tree.specs.Tree.{Block, no_stats, more_stats, the_stat, StatKind, Assign, Compound, CallStat, Do, If, Local, TypeAlias, TypeFunction, Return, Arms, no_arms, more_arms, MaybeBlock, no_block, a_block}
+use Rattle.luau_tree.specs.Tree.{Block, no_stats, more_stats, the_stat, StatKind, Assign, Compound, CallStat, Do, While, Repeat, If, Local, TypeAlias, TypeFunction, Return, Break, Continue, Arms, no_arms, more_arms, MaybeBlock, no_block, a_block}
 use Rattle.luau_tree.specs.declared.names.BinOp.{BinOp}
 use Rattle.luau_tree.specs.declared.names.BinOp.TheVariants.{Or, And}
 use Rattle.luau_tree.specs.declared.names.Place.TheVariants.{Expr as ExprPlace}
 use Rattle.luau_run.specs.Program.{Program}
 use Rattle.luau_run.specs.ReadModule.{Use, UseLocal, UseBuiltin, UseLibrary, UseGlobal}
-use Rattle.luau_run.specs.Machine.{Reach, Part, ◌>>=◌, give, spend, step, log, ask, make_table}
+use Rattle.luau_run.specs.Machine.{Reach, State, Ran, Gave, Failed, Spent, Part, go_on, ◌>>=◌, give, spend, step, log, ask, make_table}
 use Rattle.luau_run.specs.Answers.{a_string}
-use Rattle.luau_run.specs.Layer.{Frame, Ending, Falls, Returns, Layer}
+use Rattle.luau_run.specs.Layer.{Frame, Ending, Falls, Breaks, Continues, Returns, Loop, WhileLoop, RepeatLoop, Layer}
 use Rattle.luau_run.specs.Operators.{is_true, binary, named_field}
 use Rattle.luau_run.specs.Calls.{block, block_rest}
 use Rattle.luau_run.specs.Expressions.{value, base_of, item_fields, all_values, each_value, chosen, binary_rest, one, reach, call_expr, evaluate, evaluate_or_builtin, values}
-use Rattle.luau_run.specs.Loops.{declare}
+use Rattle.luau_run.specs.Loops.{declare, next_turn, until, turn, turns}
 use Rattle.luau_run.specs.Statements.{Target, target, targets, write_to, write_all, read_from, place_of, branches, execute, stat}
 use Rattle.straight_certain.specs.Straight.{is_straight, is_straight_stat}
 
+-- the turns of `while` and of `repeat`
+abbrev pub plain_turns : Layer → Frame → Loop → Part Ending
+plain_turns l frame (WhileLoop cond body) = l.turns frame (WhileLoop cond body)
+plain_turns l frame (RepeatLoop body cond) = l.turns frame (RepeatLoop body cond)
+plain_turns l frame _ = spend
+
 abbrev pub closed : Layer → Layer
-closed l = record l { turns = λ frame loop. spend }
+closed l = record l { turns = λ frame loop. plain_turns l frame loop }
 
 -- ---- expressions
 
@@ -131,9 +137,41 @@ execute_closed program l frame (Local binds values) h =
 execute_closed program l frame (TypeAlias exported name generics typ) h = refl
 execute_closed program l frame (TypeFunction exported name body) h = refl
 execute_closed program l frame (Return values) h = ap (λ (p : Part (List Value)). ◌>>=◌ p (λ vs. give (Returns vs))) (all_closed l frame values)
+execute_closed program l frame (While cond body) h = refl
+execute_closed program l frame (Repeat body cond) h = refl
+execute_closed program l frame Break h = refl
+execute_closed program l frame Continue h = refl
 execute_closed program l frame _ h = cc
 
 pub stat_closed : (program : Program) (l : Layer) (frame : Frame) (span : _) (kind : StatKind) → is_straight_stat frame.reading kind ≡ true
     → stat program (closed l) frame (the_stat span kind) ≡ stat program l frame (the_stat span kind)
 unfolding stat
 stat_closed program l frame span kind h = ap (λ (p : Part Ending). ◌>>=◌ step (λ x. p)) (execute_closed program l frame kind h)
+
+-- ---- loops
+
+-- parts that go on in the same way
+go_same : {A B : Type 0} (r : Ran A) (next other : A → Part B) → ((x : A) (t : State) → next x t ≡ other x t) → go_on r next ≡ go_on r other
+go_same (Gave x t) next other h = h x t
+go_same (Failed t) next other h = refl
+go_same (Spent t) next other h = refl
+
+until_closed : (l : Layer) (frame : Frame) (cond : Expr) (again : Part Ending) (ending : Ending) (t : State) → until (closed l) frame cond again ending t ≡ until l frame cond again ending t
+until_closed l frame cond again Falls t = refl
+until_closed l frame cond again Breaks t = refl
+until_closed l frame cond again Continues t = refl
+until_closed l frame cond again (Returns vs) t = refl
+
+pub while_closed : (program : Program) (l : Layer) (frame : Frame) (cond : Expr) (body : Block) (s : State)
+    → turns program (closed l) frame (WhileLoop cond body) s ≡ turns program l frame (WhileLoop cond body) s
+unfolding turns
+while_closed program l frame cond body s = ap (λ (p : Part Ending). ◌>>=◌ step (λ x. ◌>>=◌ (value l frame cond)
+    (λ c. if is_true c then ◌>>=◌ p (next_turn (l.turns frame (WhileLoop cond body))) else give Falls)) s) (block_closed l frame body)
+
+pub repeat_closed : (program : Program) (l : Layer) (frame : Frame) (body : Block) (cond : Expr) (s : State)
+    → turns program (closed l) frame (RepeatLoop body cond) s ≡ turns program l frame (RepeatLoop body cond) s
+unfolding turns ◌>>=◌
+repeat_closed program l frame body cond s = go_same (step s) (λ x. turn program (closed l) frame (RepeatLoop body cond)) (λ x. turn program l frame (RepeatLoop body cond))
+    (λ x t. ap (λ (p : Part Ending). go_on (p t) (until (closed l) frame cond (l.turns frame (RepeatLoop body cond)))) (block_closed l frame body)
+    ∙ go_same (block l frame body t) (until (closed l) frame cond (l.turns frame (RepeatLoop body cond))) (until l frame cond (l.turns frame (RepeatLoop body cond)))
+    (λ ending u. until_closed l frame cond (l.turns frame (RepeatLoop body cond)) ending u))

@@ -14,5 +14,8 @@ pub mod ReadForms
 pub mod MethodForms
 pub mod Modules
 pub mod RequireForms
+pub mod Loops
+pub mod WhileForms
+pub mod RepeatForms
 pub mod StraightForms
 pub mod Sound

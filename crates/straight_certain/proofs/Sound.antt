@@ -1,11 +1,11 @@
 -- What the proof says of the layers of a straight program, and so of its runs.
-use Rattle.std.proofs.Common.{◌≡◌, ◌+◌, ℕ, zero, suc, true, false, List, length, refl, ◌∙◌, ap, subst, slice_get}
+use Rattle.std.proofs.Common.{◌≡◌, ◌+◌, ℕ, zero, suc, true, false, List, length, ◌⊎◌, refl, sym, ◌∙◌, ap, subst, slice_get}
 use Rattle.luau_values.specs.Value.{Value}
 use Rattle.luau_values.specs.Grows.{Grows}
 use Rattle.luau_tree.specs.Tree.{Expr, the_expr, Stat, the_stat}
 use Rattle.luau_run.specs.SyntaxNode.{ABody, of_expr, of_stat}
-use Rattle.luau_run.specs.Machine.{State, Ran, Gave, Part, spend}
-use Rattle.luau_run.specs.Layer.{Frame, Ending}
+use Rattle.luau_run.specs.Machine.{State, Ran, Gave, Spent, Part, spend}
+use Rattle.luau_run.specs.Layer.{Frame, Ending, Loop, WhileLoop, RepeatLoop}
 use Rattle.luau_run.specs.Calls.{enter_module}
 use Rattle.luau_run.specs.Expressions.{values}
 use Rattle.luau_run.specs.Statements.{stat}
@@ -14,7 +14,7 @@ use Rattle.luau_run.specs.Certain.{Certain}
 use Rattle.luau_run.proofs.FreezeFacts.{freeze_call_grows}
 use Rattle.report_rules.specs.TypeMap.{TypeMap}
 use Rattle.report_rules.specs.Seen.{seen_expr, seen_stat}
-use Rattle.report_rules.specs.Context.{Context}
+use Rattle.report_rules.specs.Context.{Context, none}
 use Rattle.report_rules.specs.Checks.{ReportKind}
 use Rattle.report_rules.specs.Statements.{stm}
 use Rattle.report_rules.specs.Findings.{found, found_stat}
@@ -24,17 +24,19 @@ use Rattle.run_frame.specs.Fit.{Fit}
 use Rattle.run_frame.proofs.World.{World, no_world}
 use Rattle.run_frame.proofs.Kept.{nobody}
 use Rattle.run_frame.proofs.Fine.{Fine}
-use Rattle.run_frame.proofs.Held.{Runs, Held}
+use Rattle.run_frame.proofs.Held.{Runs, Held, Violated}
 use Rattle.run_frame.proofs.Parts.{Ends, ends_so, gave_not_spent}
 use Rattle.run_frame.proofs.AtEnd.{fine_start, certain_of}
-use Rattle.run_frame.proofs.Layers.{rules_of, seen_of, expr_of, stat_of, Inside, Placed, Marked, Gives, Leads, Pays, EndsBad, Trouble, Forward, Backward}
-use Rattle.run_frame.proofs.LooseContexts.{SparesAll}
+use Rattle.run_frame.proofs.Layers.{rules_of, seen_of, expr_of, stat_of, Inside, Placed, Marked, Gives, Leads, Pays, EndsBad, Trouble, Forward, Backward, loop_of, nodes_of_loop, stats_of_loop, seen_in_loop, found_in_loop, entry_context, Steady, SteadyContext, IsBelow, Turns}
+use Rattle.run_frame.proofs.LooseContexts.{SparesLoose, SparesAll}
 use Rattle.straight_certain.specs.Straight.{IsStraight}
 use Rattle.straight_certain.proofs.BuiltinActs.{acts_forward}
 use Rattle.straight_certain.proofs.BuiltinCalls.{NoBodies, call_forward}
 use Rattle.straight_certain.proofs.CallForms.{Freezes}
 use Rattle.straight_certain.proofs.Modules.{ModuleGives, entered, require_forward}
-use Rattle.straight_certain.proofs.Closed.{closed, values_closed, stat_closed}
+use Rattle.straight_certain.proofs.WhileForms.{turns_forward as while_turns_forward, turns_backward as while_turns_backward}
+use Rattle.straight_certain.proofs.RepeatForms.{turns_forward as repeat_turns_forward, turns_backward as repeat_turns_backward}
+use Rattle.straight_certain.proofs.Closed.{closed, while_closed, repeat_closed, values_closed, stat_closed}
 use Rattle.straight_certain.proofs.StraightForms.{nodes_straight, expr_straight, stat_straight, values_forward, stat_forward, values_pays, stat_pays}
 
 -- ---- what holds of each layer
@@ -49,12 +51,19 @@ no_bodies an straight m reading e code c = off (nodes_straight an.program m read
 freezes_at : (an : Analysis) (depth : ℕ) → Freezes (closed (layer_of an.program depth))
 freezes_at an depth args vs s t e = subst (λ (r : Ran (List Value)). Grows s.store.heap (end_of r).store.heap) e (freeze_call_grows an.program depth args s)
 
+-- at the lowest layer, and in loops other than `while` and `repeat`, the run is spent
+lowest_turns : (frame : Frame) (loop : Loop) (s : State) → (closed lowest).turns frame loop s ≡ Spent s
+unfolding spend
+lowest_turns frame (WhileLoop cond body) s = refl
+lowest_turns frame (RepeatLoop body cond) s = refl
+lowest_turns frame _ s = refl
+
 lowest_forward : (an : Analysis) → Forward an (closed lowest)
 unfolding spend
 lowest_forward an = record {
   values = λ w s frame map e f r h inside placed. f.stays;
   stat = λ w s frame map st f r h inside placed. f.stays;
-  turns = λ w s frame map loop f r h steady inside placed there. f.stays;
+  turns = λ w s frame map loop f r h steady inside placed there. subst (λ (q : Ran Ending). Ends an (loop_of an frame loop) w s (Turns an frame map loop) q) (sym (lowest_turns frame loop s)) f.stays;
   call = λ w s callee args f there all. f.stays;
   require = λ w s at other f q. f.stays;
   acts = λ w s freedom aim f. f.stays;
@@ -65,7 +74,8 @@ unfolding spend
 lowest_backward an = record {
   values = λ w s frame map e around f r h inside placed marked vs t q. absurd (gave_not_spent s t vs q);
   stat = λ w s frame map st behind breaks_to continues_to f r h inside placed marked spares ending t q y. absurd (gave_not_spent s t ending q);
-  turns = λ w s frame map loop behind kept f r h steady steady_context below inside placed marked spares spares_kept there ending t q y. absurd (gave_not_spent s t ending q);
+  turns = λ w s frame map loop behind kept f r h steady steady_context below inside placed marked spares spares_kept there ending t q y.
+      absurd (gave_not_spent s t ending (sym (lowest_turns frame loop s) ∙ q));
 }
 
 module _ (an : Analysis) (fit : Fit an) (straight : IsStraight an.program) (depth : ℕ) (fwd : Forward an (closed (layer_of an.program depth))) (bwd : Backward an (closed (layer_of an.program depth))) where
@@ -74,12 +84,25 @@ module _ (an : Analysis) (fit : Fit an) (straight : IsStraight an.program) (dept
   next_forward = record {
     values = λ w s frame map e f r h inside placed. by_expr w s frame map e f r h inside placed;
     stat = λ w s frame map st f r h inside placed. by_stat w s frame map st f r h inside placed;
-    turns = λ w s frame map loop f r h steady inside placed there. f.stays;
+    turns = λ w s frame map loop f r h steady inside placed there. by_loop w s frame map loop f r h steady inside placed;
     call = λ w s callee args f there all. call_forward an depth (no_bodies an straight) fwd.acts w s callee args f all;
     require = λ w s at other f q. require_forward an fit (layer_of an.program depth) fwd bwd w s other f;
     acts = λ w s freedom aim f. acts_forward an (layer_of an.program depth) fwd.call fwd.acts w s freedom aim f;
   }
     where
+      by_loop : (w : World) (s : State) (frame : Frame) (map : TypeMap) (loop : Loop) → Fine an w s → Runs an w s frame → Held an frame map s → Steady (rules_of an frame) loop map
+          → Inside frame (nodes_of_loop loop) (stats_of_loop loop) → Placed an frame (seen_in_loop (rules_of an frame) map loop)
+          → Ends an (loop_of an frame loop) w s (Turns an frame map loop) ((closed (layer_of an.program (suc depth))).turns frame loop s)
+      by_loop w s frame map (WhileLoop cond body) f r h steady inside placed =
+          subst (λ (q : Ran Ending). Ends an (loop_of an frame (WhileLoop cond body)) w s (Turns an frame map (WhileLoop cond body)) q)
+          (while_closed an.program (layer_of an.program depth) frame cond body s)
+          (while_turns_forward an (closed (layer_of an.program depth)) fwd frame map cond body steady inside placed w s f r h)
+      by_loop w s frame map (RepeatLoop body cond) f r h steady inside placed =
+          subst (λ (q : Ran Ending). Ends an (loop_of an frame (RepeatLoop body cond)) w s (Turns an frame map (RepeatLoop body cond)) q)
+          (repeat_closed an.program (layer_of an.program depth) frame body cond s)
+          (repeat_turns_forward an (closed (layer_of an.program depth)) fwd frame map body cond steady inside placed w s f r h)
+      by_loop w s frame map _ f r h steady inside placed = f.stays
+
       by_expr : (w : World) (s : State) (frame : Frame) (map : TypeMap) (e : Expr) → Fine an w s → Runs an w s frame → Held an frame map s → Inside frame (of_expr e) (stats_of_expr e)
           → Placed an frame (seen_expr (rules_of an frame) map e) → Ends an (expr_of an frame e) w s (Gives an frame map e) (values an.program (layer_of an.program depth) frame e s)
       by_expr w s frame map (the_expr id span kind) f r h inside placed = subst (λ (p : Part (List Value)). Ends an (expr_of an frame (the_expr id span kind)) w s (Gives an frame map (the_expr id span kind)) (p s))
@@ -98,9 +121,25 @@ module _ (an : Analysis) (fit : Fit an) (straight : IsStraight an.program) (dept
     values = λ w s frame map e around f r h inside placed marked vs t q. by_expr w s frame map e around f r h inside placed marked vs t q;
     stat = λ w s frame map st behind breaks_to continues_to f r h inside placed marked spares ending t q y.
         by_stat w s frame map st behind breaks_to continues_to f r h inside placed marked spares ending t q y;
-    turns = λ w s frame map loop behind kept f r h steady steady_context below inside placed marked spares spares_kept there ending t q y. absurd (gave_not_spent s t ending q);
+    turns = λ w s frame map loop behind kept f r h steady steady_context below inside placed marked spares spares_kept there ending t q y.
+        by_loop w s frame map loop behind kept f r h steady steady_context below inside placed marked spares spares_kept ending t q y;
   }
     where
+      by_loop : (w : World) (s : State) (frame : Frame) (map : TypeMap) (loop : Loop) (behind kept : Context) → Fine an w s → Runs an w s frame → Held an frame map s
+          → Steady (rules_of an frame) loop map → SteadyContext (rules_of an frame) loop kept → IsBelow kept behind
+          → Inside frame (nodes_of_loop loop) (stats_of_loop loop) → Placed an frame (seen_in_loop (rules_of an frame) map loop)
+          → Marked an frame (found_in_loop (rules_of an frame) (seen_of an frame) behind kept loop)
+          → SparesLoose (rules_of an frame) behind → SparesLoose (rules_of an frame) kept
+          → (ending : Ending) (t : State) → (closed (layer_of an.program (suc depth))).turns frame loop s ≡ Gave ending t
+          → Trouble an frame (entry_context (rules_of an frame) (seen_of an frame) behind kept loop) s t ⊎ Violated an frame kept s → EndsBad an frame behind none none ending t
+      by_loop w s frame map (WhileLoop cond body) behind kept f r h steady steady_context below inside placed marked spares spares_kept ending t q y =
+          while_turns_backward an (closed (layer_of an.program depth)) fwd frame map cond body steady inside placed fit bwd behind kept steady_context below marked spares spares_kept w s f r h ending t
+          (while_closed an.program (layer_of an.program depth) frame cond body s ∙ q) y
+      by_loop w s frame map (RepeatLoop body cond) behind kept f r h steady steady_context below inside placed marked spares spares_kept ending t q y =
+          repeat_turns_backward an (closed (layer_of an.program depth)) fwd frame map body cond steady inside placed fit bwd behind kept steady_context below marked spares spares_kept w s f r h ending t
+          (repeat_closed an.program (layer_of an.program depth) frame body cond s ∙ q) y
+      by_loop w s frame map _ behind kept f r h steady steady_context below inside placed marked spares spares_kept ending t q y = absurd (gave_not_spent s t ending q)
+
       by_expr : (w : World) (s : State) (frame : Frame) (map : TypeMap) (e : Expr) (around : List ReportKind) → Fine an w s → Runs an w s frame → Held an frame map s
           → Inside frame (of_expr e) (stats_of_expr e) → Placed an frame (seen_expr (rules_of an frame) map e) → Marked an frame (found (rules_of an frame) (seen_of an frame) around e)
           → (vs : List Value) (t : State) → values an.program (layer_of an.program depth) frame e s ≡ Gave vs t → Pays an frame e s vs t

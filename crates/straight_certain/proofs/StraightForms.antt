@@ -3,7 +3,7 @@ use Rattle.std.proofs.Common.{◌≡◌, ℕ, Bool, true, false, not, ◌&&◌, 
 use Rattle.std.specs.List.{AllByRecursion, list_all}
 use Rattle.luau_values.specs.Value.{Value}
 use Rattle.luau_tree.specs.Tree.{Expr, the_expr, Exprs, no_exprs, more_exprs, ExprKind, NilExpr, TrueExpr, FalseExpr, NumberExpr, StrExpr, Vararg, FunctionExpr, NameExpr, Index, At, Call, Method, Paren, Unary, Binary, IfElse, TableExpr, Interp, Assert}
-use Rattle.luau_tree.specs.Tree.{Stat, the_stat, StatKind, Assign, Compound, CallStat, Do, If, Local, TypeAlias, TypeFunction, Return}
+use Rattle.luau_tree.specs.Tree.{Stat, the_stat, StatKind, Assign, Compound, CallStat, Do, While, Repeat, If, Local, TypeAlias, TypeFunction, Return, Break, Continue}
 use Rattle.luau_tree.specs.declared.position.Span.{Span}
 use Rattle.luau_tree.specs.declared.names.BinOp.{BinOp}
 use Rattle.luau_tree.specs.declared.names.BinOp.TheVariants.{Or, And}
@@ -40,16 +40,18 @@ use Rattle.run_frame.proofs.EitherForms.{either_forward, either_backward}
 use Rattle.run_frame.proofs.ChoiceForms.{choice_forward, choice_backward}
 use Rattle.run_frame.proofs.PartForms.{interp_forward, interp_backward}
 use Rattle.run_frame.proofs.Statements.{call_stat_forward, call_stat_backward}
-use Rattle.run_frame.proofs.LocalForms.{local_forward, do_forward, do_backward}
+use Rattle.run_frame.proofs.LocalForms.{local_forward, do_forward, do_backward, break_forward, continue_forward}
 use Rattle.run_frame.proofs.LocalBack.{local_backward}
 use Rattle.run_frame.proofs.IfForms.{if_forward, if_backward}
-use Rattle.run_frame.proofs.Leaving.{return_forward}
+use Rattle.run_frame.proofs.Leaving.{return_forward, break_backward, continue_backward}
 use Rattle.run_frame.proofs.Wanted.{return_backward}
 use Rattle.straight_certain.specs.Straight.{are_names, is_path, is_straight, is_straight_stat, is_straight_node, is_straight_statement, is_straight_module, IsStraight}
 use Rattle.straight_certain.proofs.CallForms.{Freezes, call_forward, call_backward}
 use Rattle.straight_certain.proofs.RequireForms.{required_forward, required_backward}
 use Rattle.straight_certain.proofs.AssignForms.{AreNames, assign_forward, assign_backward}
 use Rattle.straight_certain.proofs.CompoundForms.{IsPlainName, compound_forward, compound_backward}
+use Rattle.straight_certain.proofs.WhileForms.{while_forward, while_backward}
+use Rattle.straight_certain.proofs.RepeatForms.{repeat_forward, repeat_backward}
 use Rattle.straight_certain.proofs.TableForms.{table_forward, table_backward}
 use Rattle.straight_certain.proofs.MethodForms.{method_forward, method_backward}
 use Rattle.straight_certain.proofs.ReadForms.{index_forward, index_backward, at_forward, at_backward}
@@ -187,11 +189,15 @@ module _ (an : Analysis) (l : Layer) (fit : Fit an) (straight : IsStraight an.pr
       compound_forward an l fit fwd w s frame map span id target_span name op e (plain_of an w s frame id target_span name fit r is) f r h inside placed
   stat_kind w s frame map span (CallStat e) is f r h inside placed = call_stat_forward an l fwd w s frame map span e f r h inside placed
   stat_kind w s frame map span (Do body) is f r h inside placed = do_forward an l fwd w s frame map span body f r h inside placed
+  stat_kind w s frame map span (While cond body) is f r h inside placed = while_forward an l fwd w s frame map span cond body f r h inside placed
+  stat_kind w s frame map span (Repeat body cond) is f r h inside placed = repeat_forward an l fwd w s frame map span body cond f r h inside placed
   stat_kind w s frame map span (If arms last) is f r h inside placed = if_forward an l fwd w s frame map span arms last f r h inside placed
   stat_kind w s frame map span (Local binds values) is f r h inside placed = local_forward an l fit fwd w s frame map span binds values f r h inside placed
   stat_kind w s frame map span (TypeAlias exported name generics typ) is f r h inside placed = idle_forward an l w s frame map span (TypeAlias exported name generics typ) tt f h
   stat_kind w s frame map span (TypeFunction exported name body) is f r h inside placed = idle_forward an l w s frame map span (TypeFunction exported name body) tt f h
   stat_kind w s frame map span (Return values) is f r h inside placed = return_forward an l fwd w s frame map span values f r h inside placed
+  stat_kind w s frame map span Break is f r h inside placed = break_forward an l w s frame map span f
+  stat_kind w s frame map span Continue is f r h inside placed = continue_forward an l w s frame map span f
   stat_kind w s frame map span _ is f r h inside placed = cc
 
   pub stat_forward : (w : World) (s : State) (frame : Frame) (map : TypeMap) (span : _) (kind : StatKind) → Fine an w s → Runs an w s frame → Held an frame map s
@@ -287,6 +293,10 @@ module _ (an : Analysis) (l : Layer) (fit : Fit an) (straight : IsStraight an.pr
       call_stat_backward an l fit fwd bwd w s frame map span e behind breaks_to continues_to f r h inside placed marked ending t q y
   stat_pays_kind w s frame map span (Do body) behind breaks_to continues_to is f r h inside placed marked spares ending t q y =
       do_backward an l fwd bwd w s frame map span body behind breaks_to continues_to f r h inside placed marked spares ending t q y
+  stat_pays_kind w s frame map span (While cond body) behind breaks_to continues_to is f r h inside placed marked spares ending t q y =
+      while_backward an l bwd w s frame map span cond body behind breaks_to continues_to f r h inside placed marked spares ending t q y
+  stat_pays_kind w s frame map span (Repeat body cond) behind breaks_to continues_to is f r h inside placed marked spares ending t q y =
+      repeat_backward an l bwd w s frame map span body cond behind breaks_to continues_to f r h inside placed marked spares ending t q y
   stat_pays_kind w s frame map span (If arms last) behind breaks_to continues_to is f r h inside placed marked spares ending t q y =
       if_backward an l fit fwd bwd w s frame map span arms last behind breaks_to continues_to f r h inside placed marked spares ending t q y
   stat_pays_kind w s frame map span (Local binds values) behind breaks_to continues_to is f r h inside placed marked spares ending t q y =
@@ -297,6 +307,10 @@ module _ (an : Analysis) (l : Layer) (fit : Fit an) (straight : IsStraight an.pr
       idle_backward an l s frame span (TypeFunction exported name body) behind breaks_to continues_to tt ending t q y
   stat_pays_kind w s frame map span (Return values) behind breaks_to continues_to is f r h inside placed marked spares ending t q y =
       return_backward an l fit fwd bwd w s frame map span values behind breaks_to continues_to f r h inside placed marked ending t q y
+  stat_pays_kind w s frame map span Break behind breaks_to continues_to is f r h inside placed marked spares ending t q y =
+      break_backward an l s frame span behind breaks_to continues_to ending t q y
+  stat_pays_kind w s frame map span Continue behind breaks_to continues_to is f r h inside placed marked spares ending t q y =
+      continue_backward an l s frame span behind breaks_to continues_to ending t q y
   stat_pays_kind w s frame map span _ behind breaks_to continues_to is f r h inside placed marked spares ending t q y = cc
 
   pub stat_pays : (w : World) (s : State) (frame : Frame) (map : TypeMap) (span : _) (kind : StatKind) (behind breaks_to continues_to : Context) → Fine an w s
