@@ -17,5 +17,7 @@ pub mod RequireForms
 pub mod Loops
 pub mod WhileForms
 pub mod RepeatForms
+pub mod NumberTurns
+pub mod NumberForms
 pub mod StraightForms
 pub mod Sound

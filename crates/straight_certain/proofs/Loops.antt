@@ -11,7 +11,7 @@ use Rattle.type_normal.specs.HeapFree.{heap_free, widen}
 use Rattle.type_normal.specs.Operations.{union}
 use Rattle.type_normal.specs.Kinds.{unknown}
 use Rattle.type_normal.proofs.Public.{unknown_all, never_none, widen_above, widen_free, strip_below, strip_free, cut_down_below, union_holds}
-use Rattle.report_rules.specs.Rules.{Rules}
+use Rattle.report_rules.specs.Rules.{Rules, loose}
 use Rattle.report_rules.specs.Effects.{stirs, touches, assigns_block, returns_block}
 use Rattle.report_rules.specs.TypeMap.{TypeMap, head}
 use Rattle.report_rules.specs.Context.{Context, none, join, pass}
@@ -88,11 +88,11 @@ head_held an frame st map s h = record {
 }
 
 -- its map is steady, where the loop touches and stirs what the statement does
-pub head_steady : (rules : Rules) (st : Stat) (loop : Loop) (map : TypeMap) → ((x : ℕ) → touches rules x st ≡ loop_touches rules x loop) → stirs rules st ≡ loop_stirs rules loop
+pub head_steady : (rules : Rules) (st : Stat) (loop : Loop) (map : TypeMap) → ((x : ℕ) → loop_touches rules x loop ≡ true → touches rules x st ≡ true) → (loop_stirs rules loop ≡ true → stirs rules st ≡ true)
     → Steady rules loop (head rules st map)
 head_steady rules st loop map touch stir = record {
-  touched = λ x e. ap (λ (b : Bool). if b then unknown else if stirs rules st then widen (map.entry x) else map.entry x) (touch x ∙ e);
-  stirred = λ x e. free (touches rules x st) (stirs rules st) x (stir ∙ e);
+  touched = λ x e. ap (λ (b : Bool). if b then unknown else if stirs rules st then widen (map.entry x) else map.entry x) (touch x e);
+  stirred = λ x e. free (touches rules x st) (stirs rules st) x (stir e);
 }
   where
     free : (a b : Bool) (x : ℕ) → b ≡ true → heap_free (if a then unknown else if b then widen (map.entry x) else map.entry x) ≡ true
@@ -113,11 +113,11 @@ keep_below rules st body behind x h v e = keep_below_at h v (returns_block body)
 pub keep_spares : (rules : Rules) (st : Stat) (body : Block) (behind : Context) → SparesLoose rules behind → SparesLoose rules (keep rules st body behind)
 keep_spares rules st body behind spares x l h v e = spares x l h v (keep_below rules st body behind x h v e)
 
-pub keep_steady : (rules : Rules) (st : Stat) (loop : Loop) (behind : Context) → ((x : ℕ) → touches rules x st ≡ loop_touches rules x loop) → stirs rules st ≡ loop_stirs rules loop
+pub keep_steady : (rules : Rules) (st : Stat) (loop : Loop) (behind : Context) → ((x : ℕ) → loop_touches rules x loop ≡ true → touches rules x st ≡ true) → (loop_stirs rules loop ≡ true → stirs rules st ≡ true)
     → SteadyContext rules loop (keep rules st (loop_body loop) behind)
 keep_steady rules st loop behind touch stir = record {
-  touched = λ x e. untouched (returns_block (loop_body loop)) (touches rules x st) (stirs rules st) x (touch x ∙ e);
-  stirred = λ x e. free (returns_block (loop_body loop)) (touches rules x st) (stirs rules st) x (stir ∙ e);
+  touched = λ x e. untouched (returns_block (loop_body loop)) (touches rules x st) (stirs rules st) x (touch x e);
+  stirred = λ x e. free (returns_block (loop_body loop)) (touches rules x st) (stirs rules st) x (stir e);
   returned = λ x e. ap (λ (b : Bool). if b then never else if touches rules x st then never else pass (stirs rules st) behind x) e;
 }
   where

@@ -1,19 +1,20 @@
 -- `repeat`, forward and backward: its turns, and the statement.
-use Rattle.std.proofs.Common.{◌≡◌, ◌<◌, ℕ, Bool, true, false, not, ◌||◌, if◌then◌else◌, ◌++◌, ◌⊎◌, inl, inr, refl, sym, ap, subst, arith, [], List}
+use Rattle.std.proofs.Common.{◌≡◌, ◌<◌, ℕ, Bool, true, false, not, ◌||◌, if◌then◌else◌, ◌++◌, ◌⊎◌, inl, inr, refl, sym, ◌∙◌, ap, subst, arith, [], List}
 use Rattle.luau_values.specs.Value.{Value}
 use Rattle.luau_tree.specs.Tree.{Expr, Block, the_stat, Repeat}
 use Rattle.luau_tree.specs.declared.position.Span.{Span}
 use Rattle.luau_run.specs.SyntaxNode.{of_expr, of_block, of_stat}
-use Rattle.luau_run.specs.Machine.{State, Gave, go_on, ◌>>=◌, give, step}
-use Rattle.luau_run.specs.Layer.{Frame, Ending, Falls, Breaks, Continues, Returns, RepeatLoop, Layer, first}
+use Rattle.luau_run.specs.Machine.{State, Gave, Part, go_on, ◌>>=◌, give, step}
+use Rattle.luau_run.specs.Layer.{Frame, Ending, Falls, Breaks, Continues, Returns, Loop, RepeatLoop, Layer, first}
 use Rattle.luau_run.specs.Operators.{is_true}
 use Rattle.luau_run.specs.Calls.{block}
 use Rattle.luau_run.specs.Expressions.{value}
 use Rattle.luau_run.specs.Loops.{until, turn, turns}
 use Rattle.luau_run.specs.Statements.{execute, stat}
 use Rattle.type_arena.specs.Term.{never}
-use Rattle.report_rules.specs.Effects.{effects, stirs_block}
+use Rattle.report_rules.specs.Effects.{effects, stirs_block, returns_block}
 use Rattle.report_rules.specs.TypeMap.{TypeMap}
+use Rattle.report_rules.specs.Forward.{after}
 use Rattle.report_rules.specs.After.{repeat_map}
 use Rattle.report_rules.specs.Seen.{seen_expr, seen_stat, seen_block}
 use Rattle.report_rules.specs.Context.{Context, none, pass, followed}
@@ -30,10 +31,10 @@ use Rattle.run_frame.proofs.Kept.{MayMore, Kept, kept_same, kept_more}
 use Rattle.run_frame.proofs.Fine.{Fine, fine_same}
 use Rattle.run_frame.proofs.Held.{Runs, runs_kept, Held, held_same, Violated, violated_same}
 use Rattle.run_frame.proofs.Parts.{Ends, Same, ends_then, ends_so, ends_more, ends_give, ends_gave, ends_step, step_same, gave_then, gave_same}
-use Rattle.run_frame.proofs.Layers.{rules_of, seen_of, expr_of, stat_of, block_of, Inside, Placed, Marked, Leads, EndsBad, Trouble, Forward, Backward, loop_of, seen_in_loop, found_in_loop, Steady, SteadyContext, IsBelow, Turns}
+use Rattle.run_frame.proofs.Layers.{rules_of, seen_of, part_of, expr_of, stat_of, block_of, Inside, Placed, Marked, Gives, Pays, Leads, EndsBad, Trouble, Forward, Backward, loop_of, seen_in_loop, found_in_loop, Steady, SteadyContext, IsBelow, Turns}
 use Rattle.run_frame.proofs.LooseContexts.{SparesLoose, SparesAll, spare_ev, spare_pass}
 use Rattle.run_frame.proofs.Readings.{sub_tail, sub_left, sub_right}
-use Rattle.run_frame.proofs.Passing.{violated_followed}
+use Rattle.run_frame.proofs.Passing.{none_violated, violated_followed}
 use Rattle.run_frame.proofs.Lists.{inside_left, inside_right, FirstOf}
 use Rattle.run_frame.proofs.Blocks.{BlockLeads, block_forward, block_backward, count_split, same_end}
 use Rattle.run_frame.proofs.Statements.{ends_stat, stat_gave, trouble_same, unchecked_count, unchecked_context}
@@ -284,7 +285,7 @@ repeat_forward an l fwd w s frame map span body cond f r h inside placed =
     (Leads an frame map (the_stat span (Repeat body cond))) (l.turns frame (RepeatLoop body cond) t) (λ ending u y q d j z. turns_lead an frame map span body cond ending u z)
     (fwd.turns v t frame (repeat_map (rules_of an frame) span body cond map) (RepeatLoop body cond) g
     (runs_kept an (stat_of an frame (the_stat span (Repeat body cond))) w v s t frame k r) (head_held an frame (the_stat span (Repeat body cond)) map t (held_same an s t frame map p h))
-    (head_steady (rules_of an frame) (the_stat span (Repeat body cond)) (RepeatLoop body cond) map (λ x. refl) refl) (inside_loop frame span body cond inside) placed tt))
+    (head_steady (rules_of an frame) (the_stat span (Repeat body cond)) (RepeatLoop body cond) map (λ x e. e) (λ e. e)) (inside_loop frame span body cond inside) placed tt))
 
 pub repeat_backward : (an : Analysis) (l : Layer) → Backward an l → (w : World) (s : State) (frame : Frame) (map : TypeMap) (span : Span) (body : Block) (cond : Expr)
     (behind breaks_to continues_to : Context) → Fine an w s → Runs an w s frame
@@ -301,8 +302,8 @@ repeat_backward an l bwd w s frame map span body cond behind breaks_to continues
         (fine_same an w s p.0 p.1.0 p.1.1 f)
         (runs_kept an (block_of an frame body) w w s p.0 frame (kept_same an (block_of an frame body) w s p.0 p.1.0 p.1.1) r)
         (head_held an frame (the_stat span (Repeat body cond)) map p.0 (held_same an s p.0 frame map p.1 h))
-        (head_steady (rules_of an frame) (the_stat span (Repeat body cond)) (RepeatLoop body cond) map (λ x. refl) refl)
-        (keep_steady (rules_of an frame) (the_stat span (Repeat body cond)) (RepeatLoop body cond) behind (λ x. refl) refl)
+        (head_steady (rules_of an frame) (the_stat span (Repeat body cond)) (RepeatLoop body cond) map (λ x e. e) (λ e. e))
+        (keep_steady (rules_of an frame) (the_stat span (Repeat body cond)) (RepeatLoop body cond) behind (λ x e. e) (λ e. e))
         (keep_below (rules_of an frame) (the_stat span (Repeat body cond)) body behind) (inside_loop frame span body cond inside) placed marked spares.0
         (keep_spares (rules_of an frame) (the_stat span (Repeat body cond)) body behind spares.0) tt ending t p.2
         (inl (trouble_same an frame (stm (rules_of an frame) (seen_of an frame) (the_stat span (Repeat body cond)) behind breaks_to continues_to) s p.0 t p.1 y)))

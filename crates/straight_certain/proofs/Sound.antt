@@ -1,13 +1,14 @@
 -- What the proof says of the layers of a straight program, and so of its runs.
-use Rattle.std.proofs.Common.{◌≡◌, ◌+◌, ℕ, zero, suc, true, false, List, length, ◌⊎◌, refl, sym, ◌∙◌, ap, subst, slice_get}
+use Rattle.std.proofs.Common.{◌≡◌, ◌+◌, ℕ, zero, suc, Bool, true, false, if◌then◌else◌, List, Option, Some, None, is_some, length, ◌⊎◌, refl, sym, ◌∙◌, ap, subst, slice_get}
 use Rattle.luau_values.specs.Value.{Value}
 use Rattle.luau_values.specs.Grows.{Grows}
 use Rattle.luau_tree.specs.Tree.{Expr, the_expr, Stat, the_stat}
 use Rattle.luau_run.specs.SyntaxNode.{ABody, of_expr, of_stat}
 use Rattle.luau_run.specs.Machine.{State, Ran, Gave, Spent, Part, spend}
-use Rattle.luau_run.specs.Layer.{Frame, Ending, Loop, WhileLoop, RepeatLoop}
+use Rattle.luau_run.specs.Layer.{Frame, Ending, Loop, WhileLoop, RepeatLoop, NumLoop}
 use Rattle.luau_run.specs.Calls.{enter_module}
 use Rattle.luau_run.specs.Expressions.{values}
+use Rattle.luau_run.specs.Loops.{turns}
 use Rattle.luau_run.specs.Statements.{stat}
 use Rattle.luau_run.specs.Run.{lowest, layer_of, start, end_of}
 use Rattle.luau_run.specs.Certain.{Certain}
@@ -35,9 +36,10 @@ use Rattle.straight_certain.proofs.BuiltinCalls.{NoBodies, call_forward}
 use Rattle.straight_certain.proofs.CallForms.{Freezes}
 use Rattle.straight_certain.proofs.Modules.{ModuleGives, entered, require_forward}
 use Rattle.straight_certain.proofs.WhileForms.{turns_forward as while_turns_forward, turns_backward as while_turns_backward}
+use Rattle.straight_certain.proofs.NumberTurns.{turns_forward as number_turns_forward, turns_backward as number_turns_backward}
 use Rattle.straight_certain.proofs.RepeatForms.{turns_forward as repeat_turns_forward, turns_backward as repeat_turns_backward}
-use Rattle.straight_certain.proofs.Closed.{closed, while_closed, repeat_closed, values_closed, stat_closed}
-use Rattle.straight_certain.proofs.StraightForms.{nodes_straight, expr_straight, stat_straight, values_forward, stat_forward, values_pays, stat_pays}
+use Rattle.straight_certain.proofs.Closed.{closed, while_closed, repeat_closed, number_closed, values_closed, stat_closed}
+use Rattle.straight_certain.proofs.StraightForms.{nodes_straight, expr_straight, stat_straight, fits_run, values_forward, stat_forward, values_pays, stat_pays}
 
 -- ---- what holds of each layer
 
@@ -48,38 +50,43 @@ no_bodies an straight m reading e code c = off (nodes_straight an.program m read
     off : false ≡ true → ⊥
     off k = cc
 
-freezes_at : (an : Analysis) (depth : ℕ) → Freezes (closed (layer_of an.program depth))
+freezes_at : (an : Analysis) (depth : ℕ) → Freezes (closed an (layer_of an.program depth))
 freezes_at an depth args vs s t e = subst (λ (r : Ran (List Value)). Grows s.store.heap (end_of r).store.heap) e (freeze_call_grows an.program depth args s)
 
--- at the lowest layer, and in loops other than `while` and `repeat`, the run is spent
-lowest_turns : (frame : Frame) (loop : Loop) (s : State) → (closed lowest).turns frame loop s ≡ Spent s
+-- at the lowest layer the run is spent
+lowest_turns : (an : Analysis) (frame : Frame) (loop : Loop) (s : State) → (closed an lowest).turns frame loop s ≡ Spent s
 unfolding spend
-lowest_turns frame (WhileLoop cond body) s = refl
-lowest_turns frame (RepeatLoop body cond) s = refl
-lowest_turns frame _ s = refl
+lowest_turns an frame (WhileLoop cond body) s = refl
+lowest_turns an frame (RepeatLoop body cond) s = refl
+lowest_turns an frame (NumLoop local body) s = by_test (is_some ((rules_of an frame).fixed local))
+  where
+    by_test : (b : Bool) → (if b then spend else lowest.turns frame (NumLoop local body)) s ≡ Spent s
+    by_test true = refl
+    by_test false = refl
+lowest_turns an frame _ s = refl
 
-lowest_forward : (an : Analysis) → Forward an (closed lowest)
+lowest_forward : (an : Analysis) → Forward an (closed an lowest)
 unfolding spend
 lowest_forward an = record {
   values = λ w s frame map e f r h inside placed. f.stays;
   stat = λ w s frame map st f r h inside placed. f.stays;
-  turns = λ w s frame map loop f r h steady inside placed there. subst (λ (q : Ran Ending). Ends an (loop_of an frame loop) w s (Turns an frame map loop) q) (sym (lowest_turns frame loop s)) f.stays;
+  turns = λ w s frame map loop f r h steady inside placed there. subst (λ (q : Ran Ending). Ends an (loop_of an frame loop) w s (Turns an frame map loop) q) (sym (lowest_turns an frame loop s)) f.stays;
   call = λ w s callee args f there all. f.stays;
   require = λ w s at other f q. f.stays;
   acts = λ w s freedom aim f. f.stays;
 }
 
-lowest_backward : (an : Analysis) → Backward an (closed lowest)
+lowest_backward : (an : Analysis) → Backward an (closed an lowest)
 unfolding spend
 lowest_backward an = record {
   values = λ w s frame map e around f r h inside placed marked vs t q. absurd (gave_not_spent s t vs q);
   stat = λ w s frame map st behind breaks_to continues_to f r h inside placed marked spares ending t q y. absurd (gave_not_spent s t ending q);
   turns = λ w s frame map loop behind kept f r h steady steady_context below inside placed marked spares spares_kept there ending t q y.
-      absurd (gave_not_spent s t ending (sym (lowest_turns frame loop s) ∙ q));
+      absurd (gave_not_spent s t ending (sym (lowest_turns an frame loop s) ∙ q));
 }
 
-module _ (an : Analysis) (fit : Fit an) (straight : IsStraight an.program) (depth : ℕ) (fwd : Forward an (closed (layer_of an.program depth))) (bwd : Backward an (closed (layer_of an.program depth))) where
-  next_forward : Forward an (closed (layer_of an.program (suc depth)))
+module _ (an : Analysis) (fit : Fit an) (straight : IsStraight an.program) (depth : ℕ) (fwd : Forward an (closed an (layer_of an.program depth))) (bwd : Backward an (closed an (layer_of an.program depth))) where
+  next_forward : Forward an (closed an (layer_of an.program (suc depth)))
   unfolding spend
   next_forward = record {
     values = λ w s frame map e f r h inside placed. by_expr w s frame map e f r h inside placed;
@@ -92,30 +99,39 @@ module _ (an : Analysis) (fit : Fit an) (straight : IsStraight an.program) (dept
     where
       by_loop : (w : World) (s : State) (frame : Frame) (map : TypeMap) (loop : Loop) → Fine an w s → Runs an w s frame → Held an frame map s → Steady (rules_of an frame) loop map
           → Inside frame (nodes_of_loop loop) (stats_of_loop loop) → Placed an frame (seen_in_loop (rules_of an frame) map loop)
-          → Ends an (loop_of an frame loop) w s (Turns an frame map loop) ((closed (layer_of an.program (suc depth))).turns frame loop s)
+          → Ends an (loop_of an frame loop) w s (Turns an frame map loop) ((closed an (layer_of an.program (suc depth))).turns frame loop s)
       by_loop w s frame map (WhileLoop cond body) f r h steady inside placed =
           subst (λ (q : Ran Ending). Ends an (loop_of an frame (WhileLoop cond body)) w s (Turns an frame map (WhileLoop cond body)) q)
-          (while_closed an.program (layer_of an.program depth) frame cond body s)
-          (while_turns_forward an (closed (layer_of an.program depth)) fwd frame map cond body steady inside placed w s f r h)
+          (while_closed an.program an (layer_of an.program depth) frame cond body s)
+          (while_turns_forward an (closed an (layer_of an.program depth)) fwd frame map cond body steady inside placed w s f r h)
       by_loop w s frame map (RepeatLoop body cond) f r h steady inside placed =
           subst (λ (q : Ran Ending). Ends an (loop_of an frame (RepeatLoop body cond)) w s (Turns an frame map (RepeatLoop body cond)) q)
-          (repeat_closed an.program (layer_of an.program depth) frame body cond s)
-          (repeat_turns_forward an (closed (layer_of an.program depth)) fwd frame map body cond steady inside placed w s f r h)
+          (repeat_closed an.program an (layer_of an.program depth) frame body cond s)
+          (repeat_turns_forward an (closed an (layer_of an.program depth)) fwd frame map body cond steady inside placed w s f r h)
+      by_loop w s frame map (NumLoop local body) f r h steady inside placed = by_fixed ((rules_of an frame).fixed local) refl
+        where
+          by_fixed : (o : Option (List ℕ)) → (rules_of an frame).fixed local ≡ o
+              → Ends an (loop_of an frame (NumLoop local body)) w s (Turns an frame map (NumLoop local body))
+              ((if is_some o then spend else turns an.program (layer_of an.program depth) frame (NumLoop local body)) s)
+          by_fixed (Some path) e = f.stays
+          by_fixed None e = subst (λ (q : Ran Ending). Ends an (loop_of an frame (NumLoop local body)) w s (Turns an frame map (NumLoop local body)) q)
+              (number_closed an.program an (layer_of an.program depth) frame local body s e)
+              (number_turns_forward an (closed an (layer_of an.program depth)) fwd frame map local body e steady inside placed w s f r h)
       by_loop w s frame map _ f r h steady inside placed = f.stays
 
       by_expr : (w : World) (s : State) (frame : Frame) (map : TypeMap) (e : Expr) → Fine an w s → Runs an w s frame → Held an frame map s → Inside frame (of_expr e) (stats_of_expr e)
           → Placed an frame (seen_expr (rules_of an frame) map e) → Ends an (expr_of an frame e) w s (Gives an frame map e) (values an.program (layer_of an.program depth) frame e s)
       by_expr w s frame map (the_expr id span kind) f r h inside placed = subst (λ (p : Part (List Value)). Ends an (expr_of an frame (the_expr id span kind)) w s (Gives an frame map (the_expr id span kind)) (p s))
-          (values_closed an.program (layer_of an.program depth) frame id span kind (expr_straight an w s frame id span kind straight r inside))
-          (values_forward an (closed (layer_of an.program depth)) fit straight fwd (freezes_at an depth) w s frame map id span kind f r h inside placed)
+          (values_closed an.program an (layer_of an.program depth) frame id span kind (expr_straight an w s frame id span kind straight r inside))
+          (values_forward an (closed an (layer_of an.program depth)) fit straight fwd (freezes_at an depth) w s frame map id span kind f r h inside placed)
 
       by_stat : (w : World) (s : State) (frame : Frame) (map : TypeMap) (st : Stat) → Fine an w s → Runs an w s frame → Held an frame map s → Inside frame (of_stat st) (stats_of st)
           → Placed an frame (seen_stat (rules_of an frame) map st) → Ends an (stat_of an frame st) w s (Leads an frame map st) (stat an.program (layer_of an.program depth) frame st s)
       by_stat w s frame map (the_stat span kind) f r h inside placed = subst (λ (p : Part Ending). Ends an (stat_of an frame (the_stat span kind)) w s (Leads an frame map (the_stat span kind)) (p s))
-          (stat_closed an.program (layer_of an.program depth) frame span kind (stat_straight an w s frame span kind straight r inside))
-          (stat_forward an (closed (layer_of an.program depth)) fit straight fwd (freezes_at an depth) w s frame map span kind f r h inside placed)
+          (stat_closed an.program an (layer_of an.program depth) frame span kind (stat_straight an w s frame span kind straight r inside) (fits_run an w s frame span kind fit r inside))
+          (stat_forward an (closed an (layer_of an.program depth)) fit straight fwd (freezes_at an depth) w s frame map span kind f r h inside placed)
 
-  next_backward : Backward an (closed (layer_of an.program (suc depth)))
+  next_backward : Backward an (closed an (layer_of an.program (suc depth)))
   unfolding spend
   next_backward = record {
     values = λ w s frame map e around f r h inside placed marked vs t q. by_expr w s frame map e around f r h inside placed marked vs t q;
@@ -130,22 +146,29 @@ module _ (an : Analysis) (fit : Fit an) (straight : IsStraight an.program) (dept
           → Inside frame (nodes_of_loop loop) (stats_of_loop loop) → Placed an frame (seen_in_loop (rules_of an frame) map loop)
           → Marked an frame (found_in_loop (rules_of an frame) (seen_of an frame) behind kept loop)
           → SparesLoose (rules_of an frame) behind → SparesLoose (rules_of an frame) kept
-          → (ending : Ending) (t : State) → (closed (layer_of an.program (suc depth))).turns frame loop s ≡ Gave ending t
+          → (ending : Ending) (t : State) → (closed an (layer_of an.program (suc depth))).turns frame loop s ≡ Gave ending t
           → Trouble an frame (entry_context (rules_of an frame) (seen_of an frame) behind kept loop) s t ⊎ Violated an frame kept s → EndsBad an frame behind none none ending t
       by_loop w s frame map (WhileLoop cond body) behind kept f r h steady steady_context below inside placed marked spares spares_kept ending t q y =
-          while_turns_backward an (closed (layer_of an.program depth)) fwd frame map cond body steady inside placed fit bwd behind kept steady_context below marked spares spares_kept w s f r h ending t
-          (while_closed an.program (layer_of an.program depth) frame cond body s ∙ q) y
+          while_turns_backward an (closed an (layer_of an.program depth)) fwd frame map cond body steady inside placed fit bwd behind kept steady_context below marked spares spares_kept w s f r h ending t
+          (while_closed an.program an (layer_of an.program depth) frame cond body s ∙ q) y
       by_loop w s frame map (RepeatLoop body cond) behind kept f r h steady steady_context below inside placed marked spares spares_kept ending t q y =
-          repeat_turns_backward an (closed (layer_of an.program depth)) fwd frame map body cond steady inside placed fit bwd behind kept steady_context below marked spares spares_kept w s f r h ending t
-          (repeat_closed an.program (layer_of an.program depth) frame body cond s ∙ q) y
+          repeat_turns_backward an (closed an (layer_of an.program depth)) fwd frame map body cond steady inside placed fit bwd behind kept steady_context below marked spares spares_kept w s f r h ending t
+          (repeat_closed an.program an (layer_of an.program depth) frame body cond s ∙ q) y
+      by_loop w s frame map (NumLoop local body) behind kept f r h steady steady_context below inside placed marked spares spares_kept ending t q y = by_fixed ((rules_of an frame).fixed local) refl q
+        where
+          by_fixed : (o : Option (List ℕ)) → (rules_of an frame).fixed local ≡ o
+              → (if is_some o then spend else turns an.program (layer_of an.program depth) frame (NumLoop local body)) s ≡ Gave ending t → EndsBad an frame behind none none ending t
+          by_fixed (Some path) e k = absurd (gave_not_spent s t ending k)
+          by_fixed None e k = number_turns_backward an (closed an (layer_of an.program depth)) fwd frame map local body e steady inside placed bwd behind kept steady_context below marked spares
+              spares_kept w s f r h ending t (number_closed an.program an (layer_of an.program depth) frame local body s e ∙ k) y
       by_loop w s frame map _ behind kept f r h steady steady_context below inside placed marked spares spares_kept ending t q y = absurd (gave_not_spent s t ending q)
 
       by_expr : (w : World) (s : State) (frame : Frame) (map : TypeMap) (e : Expr) (around : List ReportKind) → Fine an w s → Runs an w s frame → Held an frame map s
           → Inside frame (of_expr e) (stats_of_expr e) → Placed an frame (seen_expr (rules_of an frame) map e) → Marked an frame (found (rules_of an frame) (seen_of an frame) around e)
           → (vs : List Value) (t : State) → values an.program (layer_of an.program depth) frame e s ≡ Gave vs t → Pays an frame e s vs t
       by_expr w s frame map (the_expr id span kind) around f r h inside placed marked vs t q =
-          values_pays an (closed (layer_of an.program depth)) fit straight fwd bwd w s frame map id span kind around f r h inside placed marked vs t
-          (ap (λ (p : Part (List Value)). p s) (values_closed an.program (layer_of an.program depth) frame id span kind (expr_straight an w s frame id span kind straight r inside)) ∙ q)
+          values_pays an (closed an (layer_of an.program depth)) fit straight fwd bwd w s frame map id span kind around f r h inside placed marked vs t
+          (ap (λ (p : Part (List Value)). p s) (values_closed an.program an (layer_of an.program depth) frame id span kind (expr_straight an w s frame id span kind straight r inside)) ∙ q)
 
       by_stat : (w : World) (s : State) (frame : Frame) (map : TypeMap) (st : Stat) (behind breaks_to continues_to : Context) → Fine an w s → Runs an w s frame → Held an frame map s
           → Inside frame (of_stat st) (stats_of st) → Placed an frame (seen_stat (rules_of an frame) map st)
@@ -153,14 +176,14 @@ module _ (an : Analysis) (fit : Fit an) (straight : IsStraight an.program) (dept
           → (ending : Ending) (t : State) → stat an.program (layer_of an.program depth) frame st s ≡ Gave ending t
           → Trouble an frame (stm (rules_of an frame) (seen_of an frame) st behind breaks_to continues_to) s t → EndsBad an frame behind breaks_to continues_to ending t
       by_stat w s frame map (the_stat span kind) behind breaks_to continues_to f r h inside placed marked spares ending t q y =
-          stat_pays an (closed (layer_of an.program depth)) fit straight fwd bwd w s frame map span kind behind breaks_to continues_to f r h inside placed marked spares ending t
-          (ap (λ (p : Part Ending). p s) (stat_closed an.program (layer_of an.program depth) frame span kind (stat_straight an w s frame span kind straight r inside)) ∙ q) y
+          stat_pays an (closed an (layer_of an.program depth)) fit straight fwd bwd w s frame map span kind behind breaks_to continues_to f r h inside placed marked spares ending t
+          (ap (λ (p : Part Ending). p s) (stat_closed an.program an (layer_of an.program depth) frame span kind (stat_straight an w s frame span kind straight r inside) (fits_run an w s frame span kind fit r inside)) ∙ q) y
 
 -- each layer does what the proof says
-pub sound : (an : Analysis) → Fit an → IsStraight an.program → (depth : ℕ) → Forward an (closed (layer_of an.program depth)) × Backward an (closed (layer_of an.program depth))
+pub sound : (an : Analysis) → Fit an → IsStraight an.program → (depth : ℕ) → Forward an (closed an (layer_of an.program depth)) × Backward an (closed an (layer_of an.program depth))
 sound an fit straight zero = (lowest_forward an, lowest_backward an)
 sound an fit straight (suc depth) =
-    let p : Forward an (closed (layer_of an.program depth)) × Backward an (closed (layer_of an.program depth)) = sound an fit straight depth in
+    let p : Forward an (closed an (layer_of an.program depth)) × Backward an (closed an (layer_of an.program depth)) = sound an fit straight depth in
     (next_forward an fit straight depth p.0 p.1, next_backward an fit straight depth p.0 p.1)
 
 -- ---- a run

@@ -3,7 +3,7 @@ use Rattle.std.proofs.Common.{◌≡◌, ℕ, Bool, true, false, not, ◌&&◌, 
 use Rattle.std.specs.List.{AllByRecursion, list_all}
 use Rattle.luau_values.specs.Value.{Value}
 use Rattle.luau_tree.specs.Tree.{Expr, the_expr, Exprs, no_exprs, more_exprs, ExprKind, NilExpr, TrueExpr, FalseExpr, NumberExpr, StrExpr, Vararg, FunctionExpr, NameExpr, Index, At, Call, Method, Paren, Unary, Binary, IfElse, TableExpr, Interp, Assert}
-use Rattle.luau_tree.specs.Tree.{Stat, the_stat, StatKind, Assign, Compound, CallStat, Do, While, Repeat, If, Local, TypeAlias, TypeFunction, Return, Break, Continue}
+use Rattle.luau_tree.specs.Tree.{Stat, the_stat, StatKind, Assign, Compound, CallStat, Do, While, Repeat, If, NumFor, the_bind, Local, TypeAlias, TypeFunction, Return, Break, Continue}
 use Rattle.luau_tree.specs.declared.position.Span.{Span}
 use Rattle.luau_tree.specs.declared.names.BinOp.{BinOp}
 use Rattle.luau_tree.specs.declared.names.BinOp.TheVariants.{Or, And}
@@ -23,14 +23,14 @@ use Rattle.report_rules.specs.Statements.{stm}
 use Rattle.report_rules.specs.Findings.{found, found_stat}
 use Rattle.run_frame.specs.Analysis.{Analysis}
 use Rattle.run_frame.specs.Statements.{stats_of_block, stats_of, stats_of_kind, stats_of_expr}
-use Rattle.run_frame.specs.Fit.{Fit}
+use Rattle.run_frame.specs.Fit.{IsFitKind, IsFitStat, Fit}
 use Rattle.run_frame.proofs.World.{World}
 use Rattle.run_frame.proofs.Fine.{Fine}
 use Rattle.run_frame.proofs.Held.{Runs, Held}
 use Rattle.run_frame.proofs.Parts.{Ends}
 use Rattle.run_frame.proofs.Layers.{rules_of, seen_of, expr_of, stat_of, Inside, Placed, Marked, Gives, Leads, Pays, EndsBad, Trouble, Forward, Backward}
 use Rattle.run_frame.proofs.LooseContexts.{SparesAll}
-use Rattle.run_frame.proofs.Readings.{contains_head, all_contained, all_at, reads_same, means}
+use Rattle.run_frame.proofs.Readings.{contains_head, all_contained, all_at, reads_same, means, fits}
 use Rattle.run_frame.proofs.Plain.{plain_forward, plain_backward, plain_nil, plain_true, plain_false, plain_number, plain_text}
 use Rattle.run_frame.proofs.NameForms.{name_forward, name_backward}
 use Rattle.run_frame.proofs.PathForms.{index_path, path_forward, path_backward}
@@ -51,6 +51,8 @@ use Rattle.straight_certain.proofs.RequireForms.{required_forward, required_back
 use Rattle.straight_certain.proofs.AssignForms.{AreNames, assign_forward, assign_backward}
 use Rattle.straight_certain.proofs.CompoundForms.{IsPlainName, compound_forward, compound_backward}
 use Rattle.straight_certain.proofs.WhileForms.{while_forward, while_backward}
+use Rattle.straight_certain.proofs.Closed.{FitsRun}
+use Rattle.straight_certain.proofs.NumberForms.{number_forward, number_backward}
 use Rattle.straight_certain.proofs.RepeatForms.{repeat_forward, repeat_backward}
 use Rattle.straight_certain.proofs.TableForms.{table_forward, table_backward}
 use Rattle.straight_certain.proofs.MethodForms.{method_forward, method_backward}
@@ -91,6 +93,17 @@ pub stat_straight : (an : Analysis) (w : World) (s : State) (frame : Frame) (spa
     → Inside frame (of_stat (the_stat span kind)) (stats_of (the_stat span kind)) → is_straight_stat frame.reading kind ≡ true
 stat_straight an w s frame span kind straight r inside = stats_straight an.program frame.module_at frame.reading (the_stat span kind) straight r.reading
     (inside.stats (the_stat span kind) (contains_head (the_stat span kind) (stats_of_kind kind)))
+
+-- the variable of a numeric `for` never stands for a builtin
+fits_so : (an : Analysis) (frame : Frame) (kind : StatKind) → (rules_of an frame).reading ≡ frame.reading → IsFitKind (rules_of an frame) kind → FitsRun an frame kind
+fits_so an frame (NumFor (the_bind name span typ) from to by body) same h = ap (λ (x : ReadModule). (rules_of an frame).fixed (x.local_at span.start)) (sym same) ∙ h
+fits_so an frame _ same h = tt
+
+pub fits_run : (an : Analysis) (w : World) (s : State) (frame : Frame) (span : Span) (kind : StatKind) → Fit an → Runs an w s frame
+    → Inside frame (of_stat (the_stat span kind)) (stats_of (the_stat span kind)) → FitsRun an frame kind
+fits_run an w s frame span kind fit r inside = fits_so an frame kind (reads_same an w s frame fit r)
+    (all_contained (IsFitStat (rules_of an frame)) (stats_of_block frame.reading.block) (the_stat span kind) (fits an w s frame fit r).statements
+    (inside.stats (the_stat span kind) (contains_head (the_stat span kind) (stats_of_kind kind)))).1
 
 -- `a.p` is a builtin's path, or stands for nothing
 abbrev IndexMeans : Option Use → Type 0
@@ -191,6 +204,8 @@ module _ (an : Analysis) (l : Layer) (fit : Fit an) (straight : IsStraight an.pr
   stat_kind w s frame map span (Do body) is f r h inside placed = do_forward an l fwd w s frame map span body f r h inside placed
   stat_kind w s frame map span (While cond body) is f r h inside placed = while_forward an l fwd w s frame map span cond body f r h inside placed
   stat_kind w s frame map span (Repeat body cond) is f r h inside placed = repeat_forward an l fwd w s frame map span body cond f r h inside placed
+  stat_kind w s frame map span (NumFor (the_bind name bind_span typ) from to by body) is f r h inside placed =
+      number_forward an l fit fwd frame map span bind_span name typ from to by body (reads_same an w s frame fit r) inside placed w s f r h
   stat_kind w s frame map span (If arms last) is f r h inside placed = if_forward an l fwd w s frame map span arms last f r h inside placed
   stat_kind w s frame map span (Local binds values) is f r h inside placed = local_forward an l fit fwd w s frame map span binds values f r h inside placed
   stat_kind w s frame map span (TypeAlias exported name generics typ) is f r h inside placed = idle_forward an l w s frame map span (TypeAlias exported name generics typ) tt f h
@@ -297,6 +312,8 @@ module _ (an : Analysis) (l : Layer) (fit : Fit an) (straight : IsStraight an.pr
       while_backward an l bwd w s frame map span cond body behind breaks_to continues_to f r h inside placed marked spares ending t q y
   stat_pays_kind w s frame map span (Repeat body cond) behind breaks_to continues_to is f r h inside placed marked spares ending t q y =
       repeat_backward an l bwd w s frame map span body cond behind breaks_to continues_to f r h inside placed marked spares ending t q y
+  stat_pays_kind w s frame map span (NumFor (the_bind name bind_span typ) from to by body) behind breaks_to continues_to is f r h inside placed marked spares ending t q y =
+      number_backward an l fit fwd frame map span bind_span name typ from to by body (reads_same an w s frame fit r) inside placed bwd behind breaks_to continues_to marked spares w s f r h ending t q y
   stat_pays_kind w s frame map span (If arms last) behind breaks_to continues_to is f r h inside placed marked spares ending t q y =
       if_backward an l fit fwd bwd w s frame map span arms last behind breaks_to continues_to f r h inside placed marked spares ending t q y
   stat_pays_kind w s frame map span (Local binds values) behind breaks_to continues_to is f r h inside placed marked spares ending t q y =
