@@ -1,39 +1,43 @@
--- A layer whose generic `for` loops are spent at once does with straight code what the layer does.
-use Rattle.std.proofs.Common.{◌≡◌, ℕ, true, if◌then◌else◌, List, ◌∷◌, Option, Some, None, is_some, [], refl, ◌∙◌, ap}
-use Rattle.luau_values.specs.Value.{Value, Tab}
+-- A layer whose `for` loops are spent at once where a variable may stand for a builtin, which none does, does with straight code what the layer does.
+use Rattle.std.proofs.Common.{◌≡◌, ℕ, true, if◌then◌else◌, List, ◌∷◌, Option, Some, None, is_some, [], refl, ◌∙◌, ap, Bool, drop, false}
+use Rattle.luau_values.specs.Value.{Value, Tab, Lit, Builtin, Other, is_nil}
 use Rattle.luau_values.specs.Heap as heaps
 use Rattle.luau_tree.specs.Tree.{Expr, the_expr, Exprs, no_exprs, more_exprs, ExprKind, NilExpr, TrueExpr, FalseExpr, NumberExpr, StrExpr, Vararg, FunctionExpr, NameExpr, Index, At, Call, Method, Paren, Unary, Binary, IfElse, TableExpr, Interp, Assert, Choices, no_choices, more_choices, Field, Keyed, Plain, Items, no_items, more_items}
-use Rattle.luau_tree.specs.Tree.{Block, no_stats, more_stats, the_stat, StatKind, Assign, Compound, CallStat, Do, While, Repeat, If, NumFor, Local, TypeAlias, TypeFunction, Return, Break, Continue, Arms, no_arms, more_arms, MaybeBlock, no_block, a_block, MaybeExpr, no_expr, an_expr, the_bind}
+use Rattle.luau_tree.specs.Tree.{Block, no_stats, more_stats, the_stat, StatKind, Assign, Compound, CallStat, Do, While, Repeat, If, NumFor, GenFor, Local, TypeAlias, TypeFunction, Return, Break, Continue, Arms, no_arms, more_arms, MaybeBlock, no_block, a_block, MaybeExpr, no_expr, an_expr, the_bind, Binds}
 use Rattle.luau_tree.specs.declared.names.BinOp.{BinOp}
 use Rattle.luau_tree.specs.declared.names.BinOp.TheVariants.{Or, And}
 use Rattle.luau_tree.specs.declared.names.Place.TheVariants.{Expr as ExprPlace}
 use Rattle.luau_run.specs.Program.{Program}
 use Rattle.luau_run.specs.ReadModule.{Use, UseLocal, UseBuiltin, UseLibrary, UseGlobal}
-use Rattle.luau_run.specs.Machine.{Reach, State, Ran, Gave, Failed, Spent, Part, go_on, ◌>>=◌, give, spend, step, log, ask, make_table, new_cell, bind_local}
-use Rattle.luau_run.specs.Answers.{a_string, a_number_turn}
-use Rattle.luau_run.specs.Layer.{Frame, Ending, Falls, Breaks, Continues, Returns, Loop, WhileLoop, RepeatLoop, NumLoop, Layer}
+use Rattle.luau_run.specs.Machine.{Reach, State, Ran, Gave, Failed, Spent, Part, go_on, ◌>>=◌, give, spend, step, log, ask, make_table, new_cell, bind_local, look}
+use Rattle.luau_run.specs.Answers.{Free, ForTurn, a_string, a_number_turn, a_turn}
+use Rattle.luau_run.specs.Layer.{Frame, Ending, Falls, Breaks, Continues, Returns, Loop, WhileLoop, RepeatLoop, NumLoop, FunctionLoop, TableLoop, OtherLoop, Layer, first}
 use Rattle.luau_run.specs.Operators.{is_true, binary, named_field}
 use Rattle.luau_run.specs.Calls.{block, block_rest}
 use Rattle.luau_run.specs.Expressions.{value, base_of, item_fields, all_values, each_value, chosen, binary_rest, one, reach, call_expr, evaluate, evaluate_or_builtin, values}
-use Rattle.luau_run.specs.Loops.{declare, next_turn, until, number_turn, turn, turns}
-use Rattle.luau_run.specs.Statements.{Target, target, targets, write_to, write_all, read_from, place_of, branches, begin_for, bounds_of, execute, stat}
+use Rattle.luau_run.specs.Loops.{declare, next_turn, until, number_turn, turn_with, function_turn, turn, turns}
+use Rattle.luau_run.specs.Statements.{Target, target, targets, write_to, write_all, read_from, place_of, branches, begin_for, bounds_of, iterate, execute, stat}
 use Rattle.run_frame.specs.Analysis.{Analysis}
 use Rattle.run_frame.proofs.Layers.{rules_of}
+use Rattle.straight_certain.proofs.IterationTurns.{is_unfixed}
 use Rattle.straight_certain.specs.Straight.{is_straight, is_straight_stat}
 
--- the turns of `while`, of `repeat`, and of a numeric `for` whose variable never stands for a builtin
+-- the turns of `while`, of `repeat`, and of a `for` whose variables never stand for a builtin
 abbrev pub plain_turns : Analysis → Layer → Frame → Loop → Part Ending
 plain_turns an l frame (WhileLoop cond body) = l.turns frame (WhileLoop cond body)
 plain_turns an l frame (RepeatLoop body cond) = l.turns frame (RepeatLoop body cond)
 plain_turns an l frame (NumLoop local body) = if is_some ((rules_of an frame).fixed local) then spend else l.turns frame (NumLoop local body)
-plain_turns an l frame _ = spend
+plain_turns an l frame (FunctionLoop iterator second control binds body) = if is_unfixed an frame binds then l.turns frame (FunctionLoop iterator second control binds body) else spend
+plain_turns an l frame (TableLoop binds body) = if is_unfixed an frame binds then l.turns frame (TableLoop binds body) else spend
+plain_turns an l frame (OtherLoop binds body) = if is_unfixed an frame binds then l.turns frame (OtherLoop binds body) else spend
 
 abbrev pub closed : Analysis → Layer → Layer
 closed an l = record l { turns = λ frame loop. plain_turns an l frame loop }
 
--- the variable of a numeric `for` never stands for a builtin
+-- the variables of a `for` never stand for a builtin
 abbrev pub FitsRun : Analysis → Frame → StatKind → Type 0
 FitsRun an frame (NumFor (the_bind name span typ) from to by body) = (rules_of an frame).fixed (frame.reading.local_at span.start) ≡ None
+FitsRun an frame (GenFor binds values body) = is_unfixed an frame binds ≡ true
 FitsRun an frame _ = Unit {0}
 
 -- ---- expressions
@@ -134,6 +138,15 @@ bounds_closed : (an : Analysis) (l : Layer) (frame : Frame) (by : MaybeExpr) →
 bounds_closed an l frame no_expr = refl
 bounds_closed an l frame (an_expr e) = refl
 
+iterate_closed : (an : Analysis) (l : Layer) (frame : Frame) (binds : Binds) (body : Block) (rest : List Value) (x : Value) → is_unfixed an frame binds ≡ true
+    → iterate (closed an l) frame binds body rest x ≡ iterate l frame binds body rest x
+iterate_closed an l frame binds body rest (Lit home number cells) h =
+    ap (λ (b : Bool). if b then l.turns frame (FunctionLoop (Lit home number cells) (first rest) (first (drop 1 rest)) binds body) else spend) h
+iterate_closed an l frame binds body rest (Builtin path) h = ap (λ (b : Bool). if b then l.turns frame (FunctionLoop (Builtin path) (first rest) (first (drop 1 rest)) binds body) else spend) h
+iterate_closed an l frame binds body rest (Tab address) h = ap (λ (b : Bool). if b then l.turns frame (TableLoop binds body) else spend) h
+iterate_closed an l frame binds body rest (Other number) h = ap (λ (b : Bool). if b then l.turns frame (OtherLoop binds body) else spend) h
+iterate_closed an l frame binds body rest _ h = refl
+
 execute_closed : (program : Program) (an : Analysis) (l : Layer) (frame : Frame) (kind : StatKind) → is_straight_stat frame.reading kind ≡ true → FitsRun an frame kind → execute program (closed an l) frame kind ≡ execute program l frame kind
 execute_closed program an l frame (Assign to values) h fits =
     ap (λ (p : Part (List Target)). ◌>>=◌ p (λ ts. ◌>>=◌ (all_values (closed an l) frame values) (λ vs. ◌>>=◌ (write_all frame ts vs) (λ x. give Falls)))) (targets_closed an l frame to)
@@ -156,6 +169,9 @@ execute_closed program an l frame (NumFor (the_bind name span typ) from to by bo
     (λ x. (closed an l).turns frame (NumLoop (frame.reading.local_at span.start) body)))))) (bounds_closed an l frame by)
     ∙ ap (λ (o : Option (List ℕ)). ◌>>=◌ (value l frame from) (λ a. ◌>>=◌ (value l frame to) (λ b. ◌>>=◌ (bounds_of l frame by) (λ c. ◌>>=◌ (begin_for (a ∷ b ∷ c))
     (λ x. if is_some o then spend else l.turns frame (NumLoop (frame.reading.local_at span.start) body)))))) fits
+execute_closed program an l frame (GenFor binds values body) h fits =
+    ap (λ (p : Part (List Value)). ◌>>=◌ p (λ vs. iterate (closed an l) frame binds body (drop 1 vs) (first vs))) (all_closed an l frame values)
+    ∙ simp (λ (vs : List Value). iterate_closed an l frame binds body (drop 1 vs) (first vs) fits)
 execute_closed program an l frame Break h fits = refl
 execute_closed program an l frame Continue h fits = refl
 execute_closed program an l frame _ h fits = cc
@@ -208,3 +224,44 @@ number_closed program an l frame local body s free = go_same (step s) (λ x. tur
         (block_closed an l frame body)
         ∙ ap (λ (o : Option (List ℕ)). ◌>>=◌ (new_cell v) (λ cell. ◌>>=◌ (bind_local frame.activation local cell)
         (λ x. ◌>>=◌ (block l frame body) (next_turn (if is_some o then spend else l.turns frame (NumLoop local body))))) u) free
+
+-- a turn with values
+with_closed : (an : Analysis) (l : Layer) (frame : Frame) (binds : Binds) (body : Block) (again : Part Ending) (o : Option (List Value)) (s : State)
+    → turn_with (closed an l) frame binds body again o s ≡ turn_with l frame binds body again o s
+with_closed an l frame binds body again None s = refl
+with_closed an l frame binds body again (Some vs) s = ap (λ (p : Part Ending). ◌>>=◌ (declare frame binds vs) (λ x. ◌>>=◌ p (next_turn again)) s) (block_closed an l frame body)
+
+pub table_closed : (program : Program) (an : Analysis) (l : Layer) (frame : Frame) (binds : Binds) (body : Block) (s : State) → is_unfixed an frame binds ≡ true
+    → turns program (closed an l) frame (TableLoop binds body) s ≡ turns program l frame (TableLoop binds body) s
+unfolding turns ◌>>=◌ look
+table_closed program an l frame binds body s h = go_same (step s) (λ x. turn program (closed an l) frame (TableLoop binds body)) (λ x. turn program l frame (TableLoop binds body))
+    (λ x t. go_same (ask (a_turn program t.store) t) (turn_with (closed an l) frame binds body ((closed an l).turns frame (TableLoop binds body)))
+    (turn_with l frame binds body (l.turns frame (TableLoop binds body)))
+    (λ o u. with_closed an l frame binds body ((closed an l).turns frame (TableLoop binds body)) o u
+    ∙ ap (λ (b : Bool). turn_with l frame binds body (if b then l.turns frame (TableLoop binds body) else spend) o u) h))
+
+pub other_closed : (program : Program) (an : Analysis) (l : Layer) (frame : Frame) (binds : Binds) (body : Block) (s : State) → is_unfixed an frame binds ≡ true
+    → turns program (closed an l) frame (OtherLoop binds body) s ≡ turns program l frame (OtherLoop binds body) s
+unfolding turns ◌>>=◌
+other_closed program an l frame binds body s h = go_same (step s) (λ x. turn program (closed an l) frame (OtherLoop binds body)) (λ x. turn program l frame (OtherLoop binds body))
+    (λ x t. go_same (l.acts Free ForTurn t) (turn_with (closed an l) frame binds body ((closed an l).turns frame (OtherLoop binds body)))
+    (turn_with l frame binds body (l.turns frame (OtherLoop binds body)))
+    (λ o u. with_closed an l frame binds body ((closed an l).turns frame (OtherLoop binds body)) o u
+    ∙ ap (λ (b : Bool). turn_with l frame binds body (if b then l.turns frame (OtherLoop binds body) else spend) o u) h))
+
+pub function_closed : (program : Program) (an : Analysis) (l : Layer) (frame : Frame) (iterator second control : Value) (binds : Binds) (body : Block) (s : State) → is_unfixed an frame binds ≡ true
+    → turns program (closed an l) frame (FunctionLoop iterator second control binds body) s ≡ turns program l frame (FunctionLoop iterator second control binds body) s
+unfolding turns ◌>>=◌
+function_closed program an l frame iterator second control binds body s h =
+    go_same (step s) (λ x. turn program (closed an l) frame (FunctionLoop iterator second control binds body)) (λ x. turn program l frame (FunctionLoop iterator second control binds body))
+    (λ x t. go_same (step t) (λ y. ◌>>=◌ (l.call iterator (second ∷ control ∷ [])) (function_turn (closed an l) frame iterator second binds body))
+    (λ y. ◌>>=◌ (l.call iterator (second ∷ control ∷ [])) (function_turn l frame iterator second binds body))
+    (λ y u. go_same (l.call iterator (second ∷ control ∷ []) u) (function_turn (closed an l) frame iterator second binds body) (function_turn l frame iterator second binds body)
+    (λ vs c. by_nil vs c (is_nil (first vs)))))
+  where
+    by_nil : (vs : List Value) (c : State) (nil : Bool)
+        → (if nil then give Falls else turn_with (closed an l) frame binds body ((closed an l).turns frame (FunctionLoop iterator second (first vs) binds body)) (Some vs)) c
+        ≡ (if nil then give Falls else turn_with l frame binds body (l.turns frame (FunctionLoop iterator second (first vs) binds body)) (Some vs)) c
+    by_nil vs c true = refl
+    by_nil vs c false = with_closed an l frame binds body ((closed an l).turns frame (FunctionLoop iterator second (first vs) binds body)) (Some vs) c
+        ∙ ap (λ (b : Bool). turn_with l frame binds body (if b then l.turns frame (FunctionLoop iterator second (first vs) binds body) else spend) (Some vs) c) h

@@ -19,5 +19,8 @@ pub mod WhileForms
 pub mod RepeatForms
 pub mod NumberTurns
 pub mod NumberForms
+pub mod IterationTurns
+pub mod IterationLoops
+pub mod IterationForms
 pub mod StraightForms
 pub mod Sound

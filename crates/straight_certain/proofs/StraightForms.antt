@@ -1,9 +1,9 @@
 -- Each form of straight code, on the layer above one that does what the proof says.
-use Rattle.std.proofs.Common.{◌≡◌, ℕ, Bool, true, false, not, ◌&&◌, List, [], ◌∷◌, Option, Some, None, ◌⊎◌, inl, inr, refl, sym, ◌∙◌, ap, subst, slice_get, Contains}
+use Rattle.std.proofs.Common.{◌≡◌, ℕ, Bool, true, false, not, ◌&&◌, List, [], ◌∷◌, Option, Some, None, ◌⊎◌, inl, inr, refl, sym, ◌∙◌, ap, subst, slice_get, Contains, is_some}
 use Rattle.std.specs.List.{AllByRecursion, list_all}
 use Rattle.luau_values.specs.Value.{Value}
 use Rattle.luau_tree.specs.Tree.{Expr, the_expr, Exprs, no_exprs, more_exprs, ExprKind, NilExpr, TrueExpr, FalseExpr, NumberExpr, StrExpr, Vararg, FunctionExpr, NameExpr, Index, At, Call, Method, Paren, Unary, Binary, IfElse, TableExpr, Interp, Assert}
-use Rattle.luau_tree.specs.Tree.{Stat, the_stat, StatKind, Assign, Compound, CallStat, Do, While, Repeat, If, NumFor, the_bind, Local, TypeAlias, TypeFunction, Return, Break, Continue}
+use Rattle.luau_tree.specs.Tree.{Stat, the_stat, StatKind, Assign, Compound, CallStat, Do, While, Repeat, If, NumFor, GenFor, the_bind, Local, TypeAlias, TypeFunction, Return, Break, Continue}
 use Rattle.luau_tree.specs.declared.position.Span.{Span}
 use Rattle.luau_tree.specs.declared.names.BinOp.{BinOp}
 use Rattle.luau_tree.specs.declared.names.BinOp.TheVariants.{Or, And}
@@ -15,6 +15,8 @@ use Rattle.luau_run.specs.Machine.{State, Gave}
 use Rattle.luau_run.specs.Layer.{Frame, Ending, Layer}
 use Rattle.luau_run.specs.Expressions.{values}
 use Rattle.luau_run.specs.Statements.{stat}
+use Rattle.report_rules.specs.Rules.{Rules}
+use Rattle.report_rules.specs.Effects.{locals_of_binds}
 use Rattle.report_rules.specs.TypeMap.{TypeMap}
 use Rattle.report_rules.specs.Seen.{seen_expr, seen_stat}
 use Rattle.report_rules.specs.Context.{Context}
@@ -40,7 +42,7 @@ use Rattle.run_frame.proofs.EitherForms.{either_forward, either_backward}
 use Rattle.run_frame.proofs.ChoiceForms.{choice_forward, choice_backward}
 use Rattle.run_frame.proofs.PartForms.{interp_forward, interp_backward}
 use Rattle.run_frame.proofs.Statements.{call_stat_forward, call_stat_backward}
-use Rattle.run_frame.proofs.LocalForms.{local_forward, do_forward, do_backward, break_forward, continue_forward}
+use Rattle.run_frame.proofs.LocalForms.{locals_same, local_forward, do_forward, do_backward, break_forward, continue_forward}
 use Rattle.run_frame.proofs.LocalBack.{local_backward}
 use Rattle.run_frame.proofs.IfForms.{if_forward, if_backward}
 use Rattle.run_frame.proofs.Leaving.{return_forward, break_backward, continue_backward}
@@ -53,6 +55,7 @@ use Rattle.straight_certain.proofs.CompoundForms.{IsPlainName, compound_forward,
 use Rattle.straight_certain.proofs.WhileForms.{while_forward, while_backward}
 use Rattle.straight_certain.proofs.Closed.{FitsRun}
 use Rattle.straight_certain.proofs.NumberForms.{number_forward, number_backward}
+use Rattle.straight_certain.proofs.IterationForms.{iteration_forward, iteration_backward}
 use Rattle.straight_certain.proofs.RepeatForms.{repeat_forward, repeat_backward}
 use Rattle.straight_certain.proofs.TableForms.{table_forward, table_backward}
 use Rattle.straight_certain.proofs.MethodForms.{method_forward, method_backward}
@@ -94,9 +97,19 @@ pub stat_straight : (an : Analysis) (w : World) (s : State) (frame : Frame) (spa
 stat_straight an w s frame span kind straight r inside = stats_straight an.program frame.module_at frame.reading (the_stat span kind) straight r.reading
     (inside.stats (the_stat span kind) (contains_head (the_stat span kind) (stats_of_kind kind)))
 
--- the variable of a numeric `for` never stands for a builtin
+-- the variables of a `for` never stand for a builtin
+none_fixed : (rules : Rules) (xs : List ℕ) → AllByRecursion (λ x. rules.fixed x ≡ None) xs → list_all (λ x. not (is_some (rules.fixed x))) xs ≡ true
+none_fixed rules [] h = refl
+none_fixed rules (x ∷ xs) h = by_one (rules.fixed x) h.0 (none_fixed rules xs h.1)
+  where
+    by_one : (o : Option (List ℕ)) → o ≡ None → list_all (λ x. not (is_some (rules.fixed x))) xs ≡ true → not (is_some o) && list_all (λ x. not (is_some (rules.fixed x))) xs ≡ true
+    by_one None e k = k
+    by_one (Some path) e k = cc
+
 fits_so : (an : Analysis) (frame : Frame) (kind : StatKind) → (rules_of an frame).reading ≡ frame.reading → IsFitKind (rules_of an frame) kind → FitsRun an frame kind
 fits_so an frame (NumFor (the_bind name span typ) from to by body) same h = ap (λ (x : ReadModule). (rules_of an frame).fixed (x.local_at span.start)) (sym same) ∙ h
+fits_so an frame (GenFor binds values body) same h = subst (λ (xs : List ℕ). list_all (λ x. not (is_some ((rules_of an frame).fixed x))) xs ≡ true)
+    (locals_same (rules_of an frame) frame binds same) (none_fixed (rules_of an frame) (locals_of_binds (rules_of an frame) binds) h.1)
 fits_so an frame _ same h = tt
 
 pub fits_run : (an : Analysis) (w : World) (s : State) (frame : Frame) (span : Span) (kind : StatKind) → Fit an → Runs an w s frame
@@ -206,6 +219,7 @@ module _ (an : Analysis) (l : Layer) (fit : Fit an) (straight : IsStraight an.pr
   stat_kind w s frame map span (Repeat body cond) is f r h inside placed = repeat_forward an l fwd w s frame map span body cond f r h inside placed
   stat_kind w s frame map span (NumFor (the_bind name bind_span typ) from to by body) is f r h inside placed =
       number_forward an l fit fwd frame map span bind_span name typ from to by body (reads_same an w s frame fit r) inside placed w s f r h
+  stat_kind w s frame map span (GenFor binds values body) is f r h inside placed = iteration_forward an l fit fwd frame map span binds values body inside placed w s f r h
   stat_kind w s frame map span (If arms last) is f r h inside placed = if_forward an l fwd w s frame map span arms last f r h inside placed
   stat_kind w s frame map span (Local binds values) is f r h inside placed = local_forward an l fit fwd w s frame map span binds values f r h inside placed
   stat_kind w s frame map span (TypeAlias exported name generics typ) is f r h inside placed = idle_forward an l w s frame map span (TypeAlias exported name generics typ) tt f h
@@ -314,6 +328,8 @@ module _ (an : Analysis) (l : Layer) (fit : Fit an) (straight : IsStraight an.pr
       repeat_backward an l bwd w s frame map span body cond behind breaks_to continues_to f r h inside placed marked spares ending t q y
   stat_pays_kind w s frame map span (NumFor (the_bind name bind_span typ) from to by body) behind breaks_to continues_to is f r h inside placed marked spares ending t q y =
       number_backward an l fit fwd frame map span bind_span name typ from to by body (reads_same an w s frame fit r) inside placed bwd behind breaks_to continues_to marked spares w s f r h ending t q y
+  stat_pays_kind w s frame map span (GenFor binds values body) behind breaks_to continues_to is f r h inside placed marked spares ending t q y =
+      iteration_backward an l fit fwd frame map span binds values body inside placed bwd behind breaks_to continues_to marked spares w s f r h ending t q y
   stat_pays_kind w s frame map span (If arms last) behind breaks_to continues_to is f r h inside placed marked spares ending t q y =
       if_backward an l fit fwd bwd w s frame map span arms last behind breaks_to continues_to f r h inside placed marked spares ending t q y
   stat_pays_kind w s frame map span (Local binds values) behind breaks_to continues_to is f r h inside placed marked spares ending t q y =
