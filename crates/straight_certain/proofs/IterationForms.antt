@@ -1,15 +1,15 @@
 -- A generic `for`, forward and backward: the statement.
-use Rattle.std.proofs.Common.{◌≡◌, ◌<◌, ℕ, Bool, true, false, not, ◌||◌, List, [], ◌∷◌, ◌++◌, ◌⊎◌, inl, inr, refl, sym, ◌∙◌, ap, subst, drop}
+use Rattle.std.proofs.Common.{◌≡◌, ◌<◌, Bool, true, false, List, [], ◌∷◌, ◌++◌, ◌⊎◌, inl, inr, refl, sym, ◌∙◌, ap, subst, drop}
 use Rattle.std.specs.List.{AllByRecursion}
-use Rattle.luau_values.specs.Value.{Value, Nil, Truth, Num, Str, Tab, Lit, Builtin, Other}
+use Rattle.luau_values.specs.Value.{Value, Tab, Lit, Builtin, Other}
 use Rattle.luau_values.specs.Heap.{Heap}
 use Rattle.luau_values.specs.Stands.{Stands}
 use Rattle.luau_tree.specs.Tree.{Exprs, no_exprs, more_exprs, Binds, Block, Stat, the_stat, GenFor}
 use Rattle.luau_tree.specs.declared.position.Span.{Span}
 use Rattle.luau_tree.specs.declared.names.Op.TheVariants.{Iterate as IterateOp}
 use Rattle.luau_run.specs.SyntaxNode.{of_exprs, of_binds, of_block, of_stat}
-use Rattle.luau_run.specs.Machine.{State, Gave, Part, go_on, ◌>>=◌, give, fail}
-use Rattle.luau_run.specs.Layer.{Frame, Ending, Falls, Breaks, Continues, Returns, Loop, FunctionLoop, TableLoop, OtherLoop, Layer, first}
+use Rattle.luau_run.specs.Machine.{State, Gave, ◌>>=◌, fail}
+use Rattle.luau_run.specs.Layer.{Frame, Ending, Falls, Breaks, Continues, Returns, FunctionLoop, TableLoop, OtherLoop, Layer, first}
 use Rattle.luau_run.specs.Expressions.{all_values}
 use Rattle.luau_run.specs.Statements.{iterate, execute, stat}
 use Rattle.type_arena.specs.Term.{never}
@@ -35,11 +35,11 @@ use Rattle.run_frame.proofs.Kept.{MayMore, Kept, kept_same}
 use Rattle.run_frame.proofs.Fine.{Fine, fine_same}
 use Rattle.run_frame.proofs.Held.{Runs, runs_kept, Held, held_same, Violated}
 use Rattle.run_frame.proofs.Parts.{Ends, Same, ends_then, ends_so, ends_more, ends_fail, ends_gave, gave_then, gave_not_failed}
-use Rattle.run_frame.proofs.Layers.{rules_of, seen_of, part_of, stat_of, Inside, Placed, Marked, Leads, EndsBad, Trouble, Forward, Backward, loop_of, Steady, SteadyContext, Turns}
+use Rattle.run_frame.proofs.Layers.{rules_of, seen_of, part_of, stat_of, Inside, Placed, Marked, Leads, EndsBad, Trouble, Forward, Backward, Turns}
 use Rattle.run_frame.proofs.LooseContexts.{SparesAll}
 use Rattle.run_frame.proofs.Readings.{sub_tail, sub_left, sub_right}
 use Rattle.run_frame.proofs.Passing.{held_after}
-use Rattle.run_frame.proofs.Lists.{ListGives, list_forward, inside_left, inside_right}
+use Rattle.run_frame.proofs.Lists.{ListGives, list_forward}
 use Rattle.run_frame.proofs.Counts.{reached}
 use Rattle.run_frame.proofs.Blocks.{count_split}
 use Rattle.run_frame.proofs.Statements.{ends_stat, stat_gave, trouble_same}

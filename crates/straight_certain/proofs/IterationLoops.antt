@@ -8,11 +8,11 @@ use Rattle.luau_values.proofs.Public.{stands_later}
 use Rattle.luau_tree.specs.Tree.{Block, Binds}
 use Rattle.luau_run.specs.SyntaxNode.{of_block}
 use Rattle.luau_run.specs.ReadFolder.{is_among}
-use Rattle.luau_run.specs.Machine.{Fits, Store, State, Gave, Part, go_on, ◌>>=◌, give, step, ask, look}
+use Rattle.luau_run.specs.Machine.{Fits, Store, State, Gave, go_on, ◌>>=◌, give, step, ask, look}
 use Rattle.luau_run.specs.Answers.{Free, ForTurn, a_turn}
-use Rattle.luau_run.specs.Layer.{Frame, Ending, Falls, Breaks, Continues, Returns, Loop, FunctionLoop, TableLoop, OtherLoop, Layer, first}
+use Rattle.luau_run.specs.Layer.{Frame, Ending, Falls, Breaks, Continues, Returns, FunctionLoop, TableLoop, OtherLoop, Layer, first}
 use Rattle.luau_run.specs.Loops.{turn_with, function_turn, turn, turns}
-use Rattle.report_rules.specs.Effects.{locals_of_binds, declares_block, returns_block}
+use Rattle.report_rules.specs.Effects.{locals_of_binds, declares_block}
 use Rattle.report_rules.specs.TypeMap.{TypeMap}
 use Rattle.report_rules.specs.Seen.{seen_block}
 use Rattle.report_rules.specs.Context.{Context, none}
@@ -21,12 +21,12 @@ use Rattle.run_frame.specs.Analysis.{Analysis}
 use Rattle.run_frame.specs.Statements.{stats_of_block}
 use Rattle.run_frame.proofs.World.{World}
 use Rattle.run_frame.proofs.Counts.{reached}
-use Rattle.run_frame.proofs.Kept.{Doer, MayMore, Kept, nobody, kept_same, kept_more}
+use Rattle.run_frame.proofs.Kept.{MayMore, Kept, nobody, kept_same, kept_more}
 use Rattle.run_frame.proofs.Fine.{Fine, fine_same}
 use Rattle.run_frame.proofs.Held.{Runs, runs_kept, has_begun, Held, held_same, Violated, violated_same}
 use Rattle.run_frame.proofs.Parts.{Ends, Same, Says, ends_so, ends_then, ends_more, ends_give, ends_gave, ends_step, ends_ask, step_same, gave_then}
 use Rattle.run_frame.proofs.Declarations.{run_locals}
-use Rattle.run_frame.proofs.Layers.{rules_of, seen_of, is_quiet, block_of, Inside, Placed, Marked, Answers, EndsBad, Trouble, Forward, Backward, loop_of, LoopStands, Steady, SteadyContext, IsBelow, Turns}
+use Rattle.run_frame.proofs.Layers.{rules_of, seen_of, is_quiet, block_of, Inside, Placed, Marked, Answers, EndsBad, Trouble, Forward, Backward, loop_of, Steady, SteadyContext, IsBelow, Turns}
 use Rattle.run_frame.proofs.LooseContexts.{SparesLoose}
 use Rattle.run_frame.proofs.Passing.{none_violated}
 use Rattle.run_frame.proofs.Blocks.{or_right}

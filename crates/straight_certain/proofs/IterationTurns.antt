@@ -1,18 +1,17 @@
 -- The turns of a generic `for`, over a function, over a table and over another value, forward and backward.
-use Rattle.std.proofs.Common.{◌≡◌, ◌<◌, ℕ, ◌==◌, Bool, true, false, not, ◌||◌, ◌&&◌, if◌then◌else◌, List, [], ◌∷◌, Option, Some, None, is_some, ◌⊎◌, inl, inr, refl, sym, ◌∙◌, ap, subst, arith, drop}
+use Rattle.std.proofs.Common.{◌≡◌, ◌<◌, ℕ, ◌==◌, Bool, true, false, not, ◌||◌, ◌&&◌, List, [], ◌∷◌, Option, Some, None, is_some, ◌⊎◌, inl, inr, refl, sym, ap, subst, arith, drop}
 use Rattle.std.specs.List.{AllByRecursion, list_all}
-use Rattle.luau_values.specs.Value.{Value, is_nil}
+use Rattle.luau_values.specs.Value.{Value}
 use Rattle.luau_values.specs.Stands.{Stands}
-use Rattle.luau_values.proofs.Public.{stands_later}
 use Rattle.luau_tree.specs.Tree.{Block, Binds, no_binds, more_binds, the_bind}
 use Rattle.luau_run.specs.SyntaxNode.{of_block}
 use Rattle.luau_run.specs.ReadFolder.{is_among}
 use Rattle.luau_run.specs.Program.{Program}
-use Rattle.luau_run.specs.Machine.{Answer, Turn, Stop, Fits, Store, State, Gave, Part, go_on, ◌>>=◌, give, step, ask, look, change}
-use Rattle.luau_run.specs.Answers.{Free, ForTurn, all_there, fits_if, a_turn}
-use Rattle.luau_run.specs.Layer.{Frame, Ending, Falls, Breaks, Continues, Returns, Loop, FunctionLoop, TableLoop, OtherLoop, Layer, first}
+use Rattle.luau_run.specs.Machine.{Answer, Turn, Fits, Store, State, Gave, Part, ◌>>=◌, give, look, change}
+use Rattle.luau_run.specs.Answers.{all_there, a_turn}
+use Rattle.luau_run.specs.Layer.{Frame, Ending, Falls, Breaks, Continues, Returns, Loop, Layer, first}
 use Rattle.luau_run.specs.Calls.{block}
-use Rattle.luau_run.specs.Loops.{declare, next_turn, turn_with, function_turn, turn, turns}
+use Rattle.luau_run.specs.Loops.{declare, next_turn, turn_with}
 use Rattle.report_rules.specs.Rules.{Rules}
 use Rattle.report_rules.specs.Effects.{locals_of_binds, declares_block, returns_block}
 use Rattle.report_rules.specs.TypeMap.{TypeMap, set_all}
@@ -23,19 +22,18 @@ use Rattle.run_frame.specs.Analysis.{Analysis}
 use Rattle.run_frame.specs.Statements.{stats_of_block}
 use Rattle.run_frame.proofs.World.{World, all_map}
 use Rattle.run_frame.proofs.Counts.{reached}
-use Rattle.run_frame.proofs.Kept.{Doer, MayMore, Kept, nobody, kept_same, kept_trans, kept_more}
-use Rattle.run_frame.proofs.Fine.{Fine, fine_same}
-use Rattle.run_frame.proofs.Held.{Runs, runs_kept, Held, held_same, Violated, violated_same}
-use Rattle.run_frame.proofs.Parts.{Ends, Same, Says, ends_so, ends_then, ends_more, ends_give, ends_gave, ends_step, ends_ask, step_same, gave_then, gave_same}
+use Rattle.run_frame.proofs.Kept.{MayMore, Kept, kept_trans, kept_more}
+use Rattle.run_frame.proofs.Fine.{Fine}
+use Rattle.run_frame.proofs.Held.{Runs, runs_kept, Held, Violated}
+use Rattle.run_frame.proofs.Parts.{Ends, ends_so, ends_then, ends_more, ends_give, ends_gave, gave_then, gave_same}
 use Rattle.run_frame.proofs.Cells.{declared}
 use Rattle.run_frame.proofs.Declarations.{run_locals, GetFixed, ends_declare}
 use Rattle.run_frame.proofs.LocalForms.{locals_same}
-use Rattle.run_frame.proofs.Layers.{rules_of, seen_of, is_quiet, block_of, Inside, Placed, Marked, Answers, EndsBad, Trouble, Forward, Backward, loop_body, loop_of, loop_declares, LoopStands, Steady, SteadyContext, IsBelow, Turns}
+use Rattle.run_frame.proofs.Layers.{rules_of, seen_of, block_of, Inside, Placed, Marked, EndsBad, Trouble, Forward, Backward, loop_of, loop_declares, Steady, SteadyContext, IsBelow, Turns}
 use Rattle.run_frame.proofs.LooseContexts.{SparesLoose}
-use Rattle.run_frame.proofs.Passing.{none_violated}
 use Rattle.run_frame.proofs.Blocks.{or_left, or_right, BlockLeads, block_forward, block_backward, count_split, same_end}
 use Rattle.straight_certain.proofs.BuiltinActs.{all_stand, fits_so}
-use Rattle.straight_certain.proofs.Loops.{steady_held, steady_violated, kept_returns, below_violated}
+use Rattle.straight_certain.proofs.Loops.{steady_held, steady_violated, below_violated}
 
 -- ---- the variables
 

@@ -11,7 +11,7 @@ use Rattle.type_normal.specs.HeapFree.{heap_free, widen}
 use Rattle.type_normal.specs.Operations.{union}
 use Rattle.type_normal.specs.Kinds.{unknown}
 use Rattle.type_normal.proofs.Public.{unknown_all, never_none, widen_above, widen_free, strip_below, strip_free, cut_down_below, union_holds}
-use Rattle.report_rules.specs.Rules.{Rules, loose}
+use Rattle.report_rules.specs.Rules.{Rules}
 use Rattle.report_rules.specs.Effects.{stirs, touches, assigns_block, returns_block}
 use Rattle.report_rules.specs.TypeMap.{TypeMap, head}
 use Rattle.report_rules.specs.Context.{Context, none, join, pass}

@@ -1,5 +1,5 @@
 -- A numeric `for`, forward and backward: its bounds, and the statement.
-use Rattle.std.proofs.Common.{◌≡◌, ◌<◌, ℕ, ◌==◌, Bool, true, false, not, ◌||◌, if◌then◌else◌, List, [], ◌∷◌, ◌++◌, ◌⊎◌, inl, inr, refl, sym, ◌∙◌, ap, subst, arith}
+use Rattle.std.proofs.Common.{◌≡◌, ℕ, ◌==◌, Bool, true, false, not, ◌||◌, if◌then◌else◌, List, [], ◌∷◌, ◌++◌, ◌⊎◌, inl, inr, refl, sym, ◌∙◌, ap, subst, arith}
 use Rattle.std.specs.List.{list_any}
 use Rattle.luau_values.specs.Value.{Value, Nil, Truth, Num, Str, Tab, Lit, Builtin, Other}
 use Rattle.luau_values.specs.Heap.{Heap}
@@ -7,22 +7,20 @@ use Rattle.luau_tree.specs.Tree.{Expr, MaybeExpr, no_expr, an_expr, MaybeType, B
 use Rattle.luau_tree.specs.declared.position.Span.{Span}
 use Rattle.luau_tree.specs.declared.names.Op.TheVariants.{For as ForOp}
 use Rattle.luau_run.specs.ReadModule.{ReadModule}
-use Rattle.luau_run.specs.SyntaxNode.{SyntaxNode, ABind, of_expr, of_maybe_expr, of_block, of_stat}
-use Rattle.luau_run.specs.Machine.{State, Ran, Gave, Part, go_on, ◌>>=◌, give, fail, step, ask}
+use Rattle.luau_run.specs.SyntaxNode.{ABind, of_expr, of_maybe_expr, of_block, of_stat}
+use Rattle.luau_run.specs.Machine.{State, Gave, go_on, ◌>>=◌, give, fail, ask}
 use Rattle.luau_run.specs.Answers.{yes_or_fail}
-use Rattle.luau_run.specs.Layer.{Frame, Ending, Falls, Breaks, Continues, Returns, Loop, NumLoop, Layer, first}
+use Rattle.luau_run.specs.Layer.{Frame, Ending, Falls, Breaks, Continues, Returns, NumLoop, Layer, first}
 use Rattle.luau_run.specs.Expressions.{value}
 use Rattle.luau_run.specs.Statements.{is_wrong, is_sure_bound, begin_for, bounds_of, execute, stat}
-use Rattle.type_arena.specs.Term.{Term}
 use Rattle.type_normal.specs.Holds.{holds}
 use Rattle.type_normal.specs.Kinds.{has_kind, number_type}
 use Rattle.type_normal.specs.Failing.{no_operand, arith_fail}
 use Rattle.type_normal.proofs.Public.{kinds_hold}
-use Rattle.report_rules.specs.Rules.{Rules}
 use Rattle.report_rules.specs.Effects.{effects, effects_of_maybe, stirs_block, assigns_block, declares_block, touches, stirs}
 use Rattle.report_rules.specs.TypeMap.{TypeMap, set, head}
 use Rattle.report_rules.specs.Forward.{after}
-use Rattle.report_rules.specs.After.{after_maybe, after_bounds, number_head, number_map}
+use Rattle.report_rules.specs.After.{after_maybe}
 use Rattle.report_rules.specs.Seen.{Seen, seen_expr, seen_maybe, seen_stat, seen_block}
 use Rattle.report_rules.specs.Context.{Context, none}
 use Rattle.report_rules.specs.Checks.{Operand}
@@ -33,17 +31,16 @@ use Rattle.run_frame.specs.Analysis.{Analysis}
 use Rattle.run_frame.specs.Statements.{stats_of_block, stats_of, stats_of_expr, stats_of_maybe_expr}
 use Rattle.run_frame.specs.Fit.{Fit}
 use Rattle.run_frame.proofs.World.{World}
-use Rattle.run_frame.proofs.Counts.{reached}
 use Rattle.run_frame.proofs.Kept.{Doer, MayMore, Kept, kept_same}
 use Rattle.run_frame.proofs.Fine.{Fine, fine_same}
 use Rattle.run_frame.proofs.Held.{Runs, runs_kept, Held, held_same, Violated}
 use Rattle.run_frame.proofs.Parts.{Ends, Same, Says, ends_then, ends_so, ends_more, ends_give, ends_fail, ends_gave, ends_ask, gave_then, gave_same, gave_not_failed}
-use Rattle.run_frame.proofs.Layers.{rules_of, seen_of, part_of, expr_of, stat_of, block_of, Inside, Placed, Marked, Leads, EndsBad, Trouble, Forward, Backward, loop_of, loop_touches, Turns}
+use Rattle.run_frame.proofs.Layers.{rules_of, seen_of, part_of, expr_of, stat_of, Inside, Placed, Marked, Leads, EndsBad, Trouble, Forward, Backward, loop_of, loop_touches, Turns}
 use Rattle.run_frame.proofs.LooseContexts.{SparesAll}
-use Rattle.run_frame.proofs.Readings.{sub_tail, sub_left, sub_right, reads_same}
+use Rattle.run_frame.proofs.Readings.{sub_tail, sub_left, sub_right}
 use Rattle.run_frame.proofs.Lists.{inside_left, inside_right, FirstOf}
 use Rattle.run_frame.proofs.Statements.{ends_stat, stat_gave, trouble_same}
-use Rattle.run_frame.proofs.Forms.{value_gave, Evaluated, evaluated, After, value_forward, sub_one, sub_two, sub_three, inside_one, inside_two, inside_three}
+use Rattle.run_frame.proofs.Forms.{value_gave, evaluated, After, value_forward, sub_one, sub_two, sub_three, inside_one, inside_two, inside_three}
 use Rattle.run_frame.proofs.ListsBack.{by_set, operand_then}
 use Rattle.straight_certain.proofs.Loops.{head_held, head_steady, keep_below, keep_spares, keep_steady, loop_end}
 
@@ -248,20 +245,36 @@ module _ (an : Analysis) (l : Layer) (fit : Fit an) (fwd : Forward an l) (frame 
   placed_by = sub_three (seen_expr (rules_of an frame) map from) (seen_expr (rules_of an frame) map_from to) (seen_maybe (rules_of an frame) map_to by) (seen_of an frame) placed_bounds
 
   may_from : MayMore (expr_of an frame from) (stat_of an frame st)
-  may_from = record { runs = inr refl; assigns = λ x e. refl; binds = λ x e. cc;
-      calm = λ e. first_quiet (effects (rules_of an frame) from) (effects (rules_of an frame) to) (effects_of_maybe (rules_of an frame) by) (stirs_block (rules_of an frame) body) e }
+  may_from = record {
+    runs = inr refl;
+    assigns = λ x e. refl;
+    binds = λ x e. cc;
+    calm = λ e. first_quiet (effects (rules_of an frame) from) (effects (rules_of an frame) to) (effects_of_maybe (rules_of an frame) by) (stirs_block (rules_of an frame) body) e;
+  }
 
   may_to : MayMore (expr_of an frame to) (stat_of an frame st)
-  may_to = record { runs = inr refl; assigns = λ x e. refl; binds = λ x e. cc;
-      calm = λ e. second_quiet (effects (rules_of an frame) from) (effects (rules_of an frame) to) (effects_of_maybe (rules_of an frame) by) (stirs_block (rules_of an frame) body) e }
+  may_to = record {
+    runs = inr refl;
+    assigns = λ x e. refl;
+    binds = λ x e. cc;
+    calm = λ e. second_quiet (effects (rules_of an frame) from) (effects (rules_of an frame) to) (effects_of_maybe (rules_of an frame) by) (stirs_block (rules_of an frame) body) e;
+  }
 
   may_by : MayMore (part_of frame (effects_of_maybe (rules_of an frame) by)) (stat_of an frame st)
-  may_by = record { runs = inr refl; assigns = λ x e. refl; binds = λ x e. cc;
-      calm = λ e. third_quiet (effects (rules_of an frame) from) (effects (rules_of an frame) to) (effects_of_maybe (rules_of an frame) by) (stirs_block (rules_of an frame) body) e }
+  may_by = record {
+    runs = inr refl;
+    assigns = λ x e. refl;
+    binds = λ x e. cc;
+    calm = λ e. third_quiet (effects (rules_of an frame) from) (effects (rules_of an frame) to) (effects_of_maybe (rules_of an frame) by) (stirs_block (rules_of an frame) body) e;
+  }
 
   may_loop : MayMore (loop_of an frame (NumLoop local body)) (stat_of an frame st)
-  may_loop = record { runs = inr refl; assigns = λ x e. e; binds = λ x e. turned x local (declares_block (rules_of an frame) x body) e;
-      calm = λ e. fourth_quiet (effects (rules_of an frame) from) (effects (rules_of an frame) to) (effects_of_maybe (rules_of an frame) by) (stirs_block (rules_of an frame) body) e }
+  may_loop = record {
+    runs = inr refl;
+    assigns = λ x e. e;
+    binds = λ x e. turned x local (declares_block (rules_of an frame) x body) e;
+    calm = λ e. fourth_quiet (effects (rules_of an frame) from) (effects (rules_of an frame) to) (effects_of_maybe (rules_of an frame) by) (stirs_block (rules_of an frame) body) e;
+  }
 
   touch : (x : ℕ) → loop_touches (rules_of an frame) x (NumLoop local body) ≡ true → touches (rules_of an frame) x st ≡ true
   touch x e = touched_so (assigns_block (rules_of an frame) x body) (((x == local) || false) || declares_block (rules_of an frame) x body) ((local == x) || declares_block (rules_of an frame) x body)

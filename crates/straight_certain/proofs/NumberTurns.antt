@@ -1,18 +1,18 @@
 -- The turns of a numeric `for`, forward and backward.
-use Rattle.std.proofs.Common.{◌≡◌, ◌<◌, ℕ, ◌==◌, Bool, true, false, not, ◌||◌, List, [], ◌∷◌, Option, Some, None, ◌⊎◌, inl, inr, refl, sym, ap, subst, arith}
+use Rattle.std.proofs.Common.{◌≡◌, ◌<◌, ℕ, ◌==◌, Bool, true, false, ◌||◌, List, [], ◌∷◌, Option, Some, None, ◌⊎◌, inl, inr, refl, sym, ap, subst, arith}
 use Rattle.luau_values.specs.Value.{Value, Num}
 use Rattle.luau_values.specs.Heap.{Heap}
 use Rattle.luau_values.specs.Stands.{Stands}
 use Rattle.luau_tree.specs.Tree.{Block}
 use Rattle.luau_run.specs.SyntaxNode.{of_block}
-use Rattle.luau_run.specs.Machine.{Answer, Turn, Fits, State, Gave, Part, go_on, ◌>>=◌, give, step, ask, look, change}
+use Rattle.luau_run.specs.Machine.{Answer, Turn, Fits, State, Gave, go_on, ◌>>=◌, give, step, ask, look, change}
 use Rattle.luau_run.specs.Answers.{a_number_turn}
-use Rattle.luau_run.specs.Layer.{Frame, Ending, Falls, Breaks, Continues, Returns, Loop, NumLoop, Layer}
+use Rattle.luau_run.specs.Layer.{Frame, Ending, Falls, Breaks, Continues, Returns, NumLoop, Layer}
 use Rattle.luau_run.specs.Calls.{block}
 use Rattle.luau_run.specs.Loops.{next_turn, number_turn, turn, turns}
 use Rattle.type_normal.specs.Holds.{holds}
 use Rattle.type_normal.specs.Kinds.{number_type}
-use Rattle.report_rules.specs.Effects.{stirs_block, declares_block}
+use Rattle.report_rules.specs.Effects.{declares_block}
 use Rattle.report_rules.specs.TypeMap.{TypeMap, set}
 use Rattle.report_rules.specs.Seen.{seen_block}
 use Rattle.report_rules.specs.Context.{Context, none}
@@ -31,7 +31,6 @@ use Rattle.run_frame.proofs.Layers.{rules_of, seen_of, block_of, Inside, Placed,
 use Rattle.run_frame.proofs.LooseContexts.{SparesLoose}
 use Rattle.run_frame.proofs.Passing.{none_violated}
 use Rattle.run_frame.proofs.Blocks.{or_right, BlockLeads, block_forward, block_backward, count_split, same_end}
-use Rattle.run_frame.proofs.Statements.{trouble_same}
 use Rattle.straight_certain.proofs.Loops.{steady_held, steady_violated, kept_returns, below_violated}
 
 itself : (n : ℕ) → (n == n) ≡ true

@@ -1,20 +1,19 @@
 -- `repeat`, forward and backward: its turns, and the statement.
-use Rattle.std.proofs.Common.{◌≡◌, ◌<◌, ℕ, Bool, true, false, not, ◌||◌, if◌then◌else◌, ◌++◌, ◌⊎◌, inl, inr, refl, sym, ◌∙◌, ap, subst, arith, [], List}
+use Rattle.std.proofs.Common.{◌≡◌, ◌<◌, ℕ, Bool, true, false, not, ◌||◌, if◌then◌else◌, ◌++◌, ◌⊎◌, inl, inr, refl, sym, ap, subst, arith, [], List}
 use Rattle.luau_values.specs.Value.{Value}
 use Rattle.luau_tree.specs.Tree.{Expr, Block, the_stat, Repeat}
 use Rattle.luau_tree.specs.declared.position.Span.{Span}
 use Rattle.luau_run.specs.SyntaxNode.{of_expr, of_block, of_stat}
-use Rattle.luau_run.specs.Machine.{State, Gave, Part, go_on, ◌>>=◌, give, step}
-use Rattle.luau_run.specs.Layer.{Frame, Ending, Falls, Breaks, Continues, Returns, Loop, RepeatLoop, Layer, first}
+use Rattle.luau_run.specs.Machine.{State, Gave, go_on, ◌>>=◌, give, step}
+use Rattle.luau_run.specs.Layer.{Frame, Ending, Falls, Breaks, Continues, Returns, RepeatLoop, Layer, first}
 use Rattle.luau_run.specs.Operators.{is_true}
 use Rattle.luau_run.specs.Calls.{block}
 use Rattle.luau_run.specs.Expressions.{value}
 use Rattle.luau_run.specs.Loops.{until, turn, turns}
 use Rattle.luau_run.specs.Statements.{execute, stat}
 use Rattle.type_arena.specs.Term.{never}
-use Rattle.report_rules.specs.Effects.{effects, stirs_block, returns_block}
+use Rattle.report_rules.specs.Effects.{effects, stirs_block}
 use Rattle.report_rules.specs.TypeMap.{TypeMap}
-use Rattle.report_rules.specs.Forward.{after}
 use Rattle.report_rules.specs.After.{repeat_map}
 use Rattle.report_rules.specs.Seen.{seen_expr, seen_stat, seen_block}
 use Rattle.report_rules.specs.Context.{Context, none, pass, followed}
@@ -31,10 +30,10 @@ use Rattle.run_frame.proofs.Kept.{MayMore, Kept, kept_same, kept_more}
 use Rattle.run_frame.proofs.Fine.{Fine, fine_same}
 use Rattle.run_frame.proofs.Held.{Runs, runs_kept, Held, held_same, Violated, violated_same}
 use Rattle.run_frame.proofs.Parts.{Ends, Same, ends_then, ends_so, ends_more, ends_give, ends_gave, ends_step, step_same, gave_then, gave_same}
-use Rattle.run_frame.proofs.Layers.{rules_of, seen_of, part_of, expr_of, stat_of, block_of, Inside, Placed, Marked, Gives, Pays, Leads, EndsBad, Trouble, Forward, Backward, loop_of, seen_in_loop, found_in_loop, Steady, SteadyContext, IsBelow, Turns}
+use Rattle.run_frame.proofs.Layers.{rules_of, seen_of, expr_of, stat_of, block_of, Inside, Placed, Marked, Leads, EndsBad, Trouble, Forward, Backward, loop_of, seen_in_loop, found_in_loop, Steady, SteadyContext, IsBelow, Turns}
 use Rattle.run_frame.proofs.LooseContexts.{SparesLoose, SparesAll, spare_ev, spare_pass}
 use Rattle.run_frame.proofs.Readings.{sub_tail, sub_left, sub_right}
-use Rattle.run_frame.proofs.Passing.{none_violated, violated_followed}
+use Rattle.run_frame.proofs.Passing.{violated_followed}
 use Rattle.run_frame.proofs.Lists.{inside_left, inside_right, FirstOf}
 use Rattle.run_frame.proofs.Blocks.{BlockLeads, block_forward, block_backward, count_split, same_end}
 use Rattle.run_frame.proofs.Statements.{ends_stat, stat_gave, trouble_same, unchecked_count, unchecked_context}

@@ -4,22 +4,22 @@ use Rattle.luau_values.specs.Value.{Value}
 use Rattle.luau_tree.specs.Tree.{Expr, Block, the_stat, While}
 use Rattle.luau_tree.specs.declared.position.Span.{Span}
 use Rattle.luau_run.specs.SyntaxNode.{of_expr, of_block, of_stat}
-use Rattle.luau_run.specs.Machine.{State, Gave, Part, go_on, ◌>>=◌, give, step}
-use Rattle.luau_run.specs.Layer.{Frame, Ending, Falls, Breaks, Continues, Returns, Loop, WhileLoop, Layer, first}
+use Rattle.luau_run.specs.Machine.{State, Gave, ◌>>=◌, give, step}
+use Rattle.luau_run.specs.Layer.{Frame, Ending, Falls, Breaks, Continues, Returns, WhileLoop, Layer, first}
 use Rattle.luau_run.specs.Operators.{is_true}
 use Rattle.luau_run.specs.Calls.{block}
 use Rattle.luau_run.specs.Expressions.{value}
 use Rattle.luau_run.specs.Loops.{next_turn, turn, turns}
 use Rattle.luau_run.specs.Statements.{execute, stat}
 use Rattle.type_arena.specs.Term.{never}
-use Rattle.report_rules.specs.Effects.{effects, stirs_block, returns_block}
+use Rattle.report_rules.specs.Effects.{effects, stirs_block}
 use Rattle.report_rules.specs.TypeMap.{TypeMap, refine}
 use Rattle.report_rules.specs.Forward.{after}
 use Rattle.report_rules.specs.After.{while_head}
 use Rattle.report_rules.specs.Seen.{seen_expr, seen_stat, seen_block}
 use Rattle.report_rules.specs.Context.{Context, none, join}
 use Rattle.report_rules.specs.Errors.{ev}
-use Rattle.report_rules.specs.Statements.{keep, stm, stm_block}
+use Rattle.report_rules.specs.Statements.{keep, stm}
 use Rattle.report_rules.specs.Findings.{found, found_stat, found_block}
 use Rattle.report_rules.specs.Reports.{findings}
 use Rattle.run_frame.specs.Analysis.{Analysis}
@@ -31,10 +31,10 @@ use Rattle.run_frame.proofs.Kept.{MayMore, Kept, kept_same, kept_more}
 use Rattle.run_frame.proofs.Fine.{Fine, fine_same}
 use Rattle.run_frame.proofs.Held.{Runs, runs_kept, Held, held_same, Violated, violated_same}
 use Rattle.run_frame.proofs.Parts.{Ends, Same, ends_then, ends_so, ends_more, ends_give, ends_gave, ends_step, step_same, gave_then, gave_same}
-use Rattle.run_frame.proofs.Layers.{rules_of, seen_of, part_of, expr_of, stat_of, block_of, Inside, Placed, Marked, Gives, Pays, Leads, EndsBad, Trouble, Forward, Backward, loop_of, seen_in_loop, found_in_loop, turn_context, entry_context, Steady, SteadyContext, IsBelow, Turns}
+use Rattle.run_frame.proofs.Layers.{rules_of, seen_of, expr_of, stat_of, block_of, Inside, Placed, Marked, Leads, EndsBad, Trouble, Forward, Backward, loop_of, seen_in_loop, found_in_loop, Steady, SteadyContext, IsBelow, Turns}
 use Rattle.run_frame.proofs.LooseContexts.{SparesLoose, SparesAll, spare_ev}
 use Rattle.run_frame.proofs.Readings.{sub_tail, sub_left, sub_right}
-use Rattle.run_frame.proofs.Passing.{none_violated, violated_join}
+use Rattle.run_frame.proofs.Passing.{violated_join}
 use Rattle.run_frame.proofs.Lists.{inside_left, inside_right, FirstOf}
 use Rattle.run_frame.proofs.Blocks.{BlockLeads, block_forward, block_backward, count_split, same_end}
 use Rattle.run_frame.proofs.Statements.{ends_stat, stat_gave, trouble_same, unchecked_count, unchecked_context}
