@@ -33,13 +33,13 @@ both_so : (a b : Bool) → a && b ≡ true → (a ≡ true) × (b ≡ true)
 both_so true b e = (refl, e)
 both_so false b e = cc
 
-all_stand : (program : Program) (store : Store) (vs : List Value) → all_there program store vs ≡ true → AllByRecursion (Stands store.heap) vs
+pub all_stand : (program : Program) (store : Store) (vs : List Value) → all_there program store vs ≡ true → AllByRecursion (Stands store.heap) vs
 all_stand program store [] h = tt
 all_stand program store (v ∷ vs) h =
     let p : (is_there program store v ≡ true) × (all_there program store vs ≡ true) = both_so (is_there program store v) (all_there program store vs) h in
     (there_stands program store v p.0, all_stand program store vs p.1)
 
-fits_so : {A : Type 0} (b : Bool) (x y : A) → fits_if b x ≡ Fits y → (b ≡ true) × (x ≡ y)
+pub fits_so : {A : Type 0} (b : Bool) (x y : A) → fits_if b x ≡ Fits y → (b ≡ true) × (x ≡ y)
 fits_so true x y e = (refl, cc)
 fits_so false x y e = cc
 

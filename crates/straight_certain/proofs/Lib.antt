@@ -14,5 +14,13 @@ pub mod ReadForms
 pub mod MethodForms
 pub mod Modules
 pub mod RequireForms
+pub mod Loops
+pub mod WhileForms
+pub mod RepeatForms
+pub mod NumberTurns
+pub mod NumberForms
+pub mod IterationTurns
+pub mod IterationLoops
+pub mod IterationForms
 pub mod StraightForms
 pub mod Sound

@@ -63,7 +63,7 @@ first_there heap [] h = tt
 first_there heap (v ∷ vs) h = h.0
 
 -- a module's own body, entered where a run may be
-module _ (an : Analysis) (fit : Fit an) (l : Layer) (fwd : Forward an (closed l)) (bwd : Backward an (closed l)) (at : ℕ) (reading : ReadModule)
+module _ (an : Analysis) (fit : Fit an) (l : Layer) (fwd : Forward an (closed an l)) (bwd : Backward an (closed an l)) (at : ℕ) (reading : ReadModule)
     (here : slice_get an.program.modules at ≡ Some reading) (w : World) (s : State) (f : Fine an w s) where
   -- its frame
   abbrev body_frame : Frame
@@ -128,25 +128,25 @@ module _ (an : Analysis) (fit : Fit an) (l : Layer) (fwd : Forward an (closed l)
 
   body_ends : Ends an (block_of an body_frame reading.block) (with_module w at) (one_begun s) (ModuleGives an at) (block l body_frame reading.block (one_begun s))
   body_ends = subst (λ (p : Part Ending). Ends an (block_of an body_frame reading.block) (with_module w at) (one_begun s) (ModuleGives an at) (p (one_begun s)))
-      (block_closed l body_frame reading.block)
+      (block_closed an l body_frame reading.block)
       (ends_so an (block_of an body_frame reading.block) (with_module w at) (one_begun s) (BlockLeads an body_frame no_map reading.block) (ModuleGives an at)
-      (block (closed l) body_frame reading.block (one_begun s)) (λ ending t v e g k p. gives_so ending t p)
-      (block_forward an (closed l) fwd (with_module w at) (one_begun s) body_frame no_map reading.block begun_fine begun_runs begun_held inside_body placed_body))
+      (block (closed an l) body_frame reading.block (one_begun s)) (λ ending t v e g k p. gives_so ending t p)
+      (block_forward an (closed an l) fwd (with_module w at) (one_begun s) body_frame no_map reading.block begun_fine begun_runs begun_held inside_body placed_body))
 
   -- a body that gave had reached no reported place
   body_quiet : (ending : Ending) (t : State) → block l body_frame reading.block (one_begun s) ≡ Gave ending t → reached an s.store.begun t.trace ≡ 0
   body_quiet ending t q = zero_or_more (reached an s.store.begun t.trace) (reached an s.store.begun t.trace ≡ 0) (λ e. e)
-      (λ e. absurd (no_bad_end an body_frame ending t (block_backward an (closed l) fwd bwd
+      (λ e. absurd (no_bad_end an body_frame ending t (block_backward an (closed an l) fwd bwd
       (with_module w at) (one_begun s) body_frame no_map reading.block none none none begun_fine begun_runs begun_held inside_body placed_body marked_body
       (spare_none (an.rules at), spare_none (an.rules at), spare_none (an.rules at)) ending t
-      (ap (λ (p : Part Ending). p (one_begun s)) (block_closed l body_frame reading.block) ∙ q)
+      (ap (λ (p : Part Ending). p (one_begun s)) (block_closed an l body_frame reading.block) ∙ q)
       (inr (omega (arith, e, f.young s.store.begun (omega arith)))))))
 
   pub module_ends : Ends an (nobody false) w s (ModuleGives an at) (activate (λ activation. block l (frame_of at reading [] activation) reading.block) s)
   module_ends = ends_activate an (block_of an body_frame reading.block) false w s at (ModuleGives an at)
       (λ activation. block l (frame_of at reading [] activation) reading.block) f refl (λ e. cc) body_ends body_quiet (λ x t p. p)
 
-pub entered : (an : Analysis) (fit : Fit an) (l : Layer) → Forward an (closed l) → Backward an (closed l) → (at : ℕ) (o : Option ReadModule) → slice_get an.program.modules at ≡ o
+pub entered : (an : Analysis) (fit : Fit an) (l : Layer) → Forward an (closed an l) → Backward an (closed an l) → (at : ℕ) (o : Option ReadModule) → slice_get an.program.modules at ≡ o
     → (w : World) (s : State) → Fine an w s → Ends an (nobody false) w s (ModuleGives an at) (enter_module l at o s)
 unfolding spend
 entered an fit l fwd bwd at None e w s f = f.stays
@@ -175,7 +175,7 @@ summary_free an other reading fit here = subst (λ (type : Term). heap_free type
     (cut_up_free (widen (union (returned_block (an.rules other) no_map (an.rules other).reading.block) (where_live (after_block (an.rules other) no_map (an.rules other).reading.block) nil_type)))
     (widen_free (union (returned_block (an.rules other) no_map (an.rules other).reading.block) (where_live (after_block (an.rules other) no_map (an.rules other).reading.block) nil_type))))
 
-pub require_forward : (an : Analysis) (fit : Fit an) (l : Layer) → Forward an (closed l) → Backward an (closed l) → (w : World) (s : State) (other : ℕ) → Fine an w s
+pub require_forward : (an : Analysis) (fit : Fit an) (l : Layer) → Forward an (closed an l) → Backward an (closed an l) → (w : World) (s : State) (other : ℕ) → Fine an w s
     → Ends an (nobody false) w s (RequireGives an other) (require an.program l other s)
 unfolding require ◌>>=◌ look change give spend
 require_forward an fit l fwd bwd w s other f = by_loaded (loaded_value s.store.loaded other) refl

@@ -1,9 +1,9 @@
 -- Each form of straight code, on the layer above one that does what the proof says.
-use Rattle.std.proofs.Common.{◌≡◌, ℕ, Bool, true, false, not, ◌&&◌, List, [], ◌∷◌, Option, Some, None, ◌⊎◌, inl, inr, refl, sym, ◌∙◌, ap, subst, slice_get, Contains}
+use Rattle.std.proofs.Common.{◌≡◌, ℕ, Bool, true, false, not, ◌&&◌, List, [], ◌∷◌, Option, Some, None, ◌⊎◌, inl, inr, refl, sym, ◌∙◌, ap, subst, slice_get, Contains, is_some}
 use Rattle.std.specs.List.{AllByRecursion, list_all}
 use Rattle.luau_values.specs.Value.{Value}
 use Rattle.luau_tree.specs.Tree.{Expr, the_expr, Exprs, no_exprs, more_exprs, ExprKind, NilExpr, TrueExpr, FalseExpr, NumberExpr, StrExpr, Vararg, FunctionExpr, NameExpr, Index, At, Call, Method, Paren, Unary, Binary, IfElse, TableExpr, Interp, Assert}
-use Rattle.luau_tree.specs.Tree.{Stat, the_stat, StatKind, Assign, Compound, CallStat, Do, If, Local, TypeAlias, TypeFunction, Return}
+use Rattle.luau_tree.specs.Tree.{Stat, the_stat, StatKind, Assign, Compound, CallStat, Do, While, Repeat, If, NumFor, GenFor, the_bind, Local, TypeAlias, TypeFunction, Return, Break, Continue}
 use Rattle.luau_tree.specs.declared.position.Span.{Span}
 use Rattle.luau_tree.specs.declared.names.BinOp.{BinOp}
 use Rattle.luau_tree.specs.declared.names.BinOp.TheVariants.{Or, And}
@@ -15,6 +15,8 @@ use Rattle.luau_run.specs.Machine.{State, Gave}
 use Rattle.luau_run.specs.Layer.{Frame, Ending, Layer}
 use Rattle.luau_run.specs.Expressions.{values}
 use Rattle.luau_run.specs.Statements.{stat}
+use Rattle.report_rules.specs.Rules.{Rules}
+use Rattle.report_rules.specs.Effects.{locals_of_binds}
 use Rattle.report_rules.specs.TypeMap.{TypeMap}
 use Rattle.report_rules.specs.Seen.{seen_expr, seen_stat}
 use Rattle.report_rules.specs.Context.{Context}
@@ -23,14 +25,14 @@ use Rattle.report_rules.specs.Statements.{stm}
 use Rattle.report_rules.specs.Findings.{found, found_stat}
 use Rattle.run_frame.specs.Analysis.{Analysis}
 use Rattle.run_frame.specs.Statements.{stats_of_block, stats_of, stats_of_kind, stats_of_expr}
-use Rattle.run_frame.specs.Fit.{Fit}
+use Rattle.run_frame.specs.Fit.{IsFitKind, IsFitStat, Fit}
 use Rattle.run_frame.proofs.World.{World}
 use Rattle.run_frame.proofs.Fine.{Fine}
 use Rattle.run_frame.proofs.Held.{Runs, Held}
 use Rattle.run_frame.proofs.Parts.{Ends}
 use Rattle.run_frame.proofs.Layers.{rules_of, seen_of, expr_of, stat_of, Inside, Placed, Marked, Gives, Leads, Pays, EndsBad, Trouble, Forward, Backward}
 use Rattle.run_frame.proofs.LooseContexts.{SparesAll}
-use Rattle.run_frame.proofs.Readings.{contains_head, all_contained, all_at, reads_same, means}
+use Rattle.run_frame.proofs.Readings.{contains_head, all_contained, all_at, reads_same, means, fits}
 use Rattle.run_frame.proofs.Plain.{plain_forward, plain_backward, plain_nil, plain_true, plain_false, plain_number, plain_text}
 use Rattle.run_frame.proofs.NameForms.{name_forward, name_backward}
 use Rattle.run_frame.proofs.PathForms.{index_path, path_forward, path_backward}
@@ -40,16 +42,21 @@ use Rattle.run_frame.proofs.EitherForms.{either_forward, either_backward}
 use Rattle.run_frame.proofs.ChoiceForms.{choice_forward, choice_backward}
 use Rattle.run_frame.proofs.PartForms.{interp_forward, interp_backward}
 use Rattle.run_frame.proofs.Statements.{call_stat_forward, call_stat_backward}
-use Rattle.run_frame.proofs.LocalForms.{local_forward, do_forward, do_backward}
+use Rattle.run_frame.proofs.LocalForms.{locals_same, local_forward, do_forward, do_backward, break_forward, continue_forward}
 use Rattle.run_frame.proofs.LocalBack.{local_backward}
 use Rattle.run_frame.proofs.IfForms.{if_forward, if_backward}
-use Rattle.run_frame.proofs.Leaving.{return_forward}
+use Rattle.run_frame.proofs.Leaving.{return_forward, break_backward, continue_backward}
 use Rattle.run_frame.proofs.Wanted.{return_backward}
 use Rattle.straight_certain.specs.Straight.{are_names, is_path, is_straight, is_straight_stat, is_straight_node, is_straight_statement, is_straight_module, IsStraight}
 use Rattle.straight_certain.proofs.CallForms.{Freezes, call_forward, call_backward}
 use Rattle.straight_certain.proofs.RequireForms.{required_forward, required_backward}
 use Rattle.straight_certain.proofs.AssignForms.{AreNames, assign_forward, assign_backward}
 use Rattle.straight_certain.proofs.CompoundForms.{IsPlainName, compound_forward, compound_backward}
+use Rattle.straight_certain.proofs.WhileForms.{while_forward, while_backward}
+use Rattle.straight_certain.proofs.Closed.{FitsRun}
+use Rattle.straight_certain.proofs.NumberForms.{number_forward, number_backward}
+use Rattle.straight_certain.proofs.IterationForms.{iteration_forward, iteration_backward}
+use Rattle.straight_certain.proofs.RepeatForms.{repeat_forward, repeat_backward}
 use Rattle.straight_certain.proofs.TableForms.{table_forward, table_backward}
 use Rattle.straight_certain.proofs.MethodForms.{method_forward, method_backward}
 use Rattle.straight_certain.proofs.ReadForms.{index_forward, index_backward, at_forward, at_backward}
@@ -89,6 +96,27 @@ pub stat_straight : (an : Analysis) (w : World) (s : State) (frame : Frame) (spa
     → Inside frame (of_stat (the_stat span kind)) (stats_of (the_stat span kind)) → is_straight_stat frame.reading kind ≡ true
 stat_straight an w s frame span kind straight r inside = stats_straight an.program frame.module_at frame.reading (the_stat span kind) straight r.reading
     (inside.stats (the_stat span kind) (contains_head (the_stat span kind) (stats_of_kind kind)))
+
+-- the variables of a `for` never stand for a builtin
+none_fixed : (rules : Rules) (xs : List ℕ) → AllByRecursion (λ x. rules.fixed x ≡ None) xs → list_all (λ x. not (is_some (rules.fixed x))) xs ≡ true
+none_fixed rules [] h = refl
+none_fixed rules (x ∷ xs) h = by_one (rules.fixed x) h.0 (none_fixed rules xs h.1)
+  where
+    by_one : (o : Option (List ℕ)) → o ≡ None → list_all (λ x. not (is_some (rules.fixed x))) xs ≡ true → not (is_some o) && list_all (λ x. not (is_some (rules.fixed x))) xs ≡ true
+    by_one None e k = k
+    by_one (Some path) e k = cc
+
+fits_so : (an : Analysis) (frame : Frame) (kind : StatKind) → (rules_of an frame).reading ≡ frame.reading → IsFitKind (rules_of an frame) kind → FitsRun an frame kind
+fits_so an frame (NumFor (the_bind name span typ) from to by body) same h = ap (λ (x : ReadModule). (rules_of an frame).fixed (x.local_at span.start)) (sym same) ∙ h
+fits_so an frame (GenFor binds values body) same h = subst (λ (xs : List ℕ). list_all (λ x. not (is_some ((rules_of an frame).fixed x))) xs ≡ true)
+    (locals_same (rules_of an frame) frame binds same) (none_fixed (rules_of an frame) (locals_of_binds (rules_of an frame) binds) h.1)
+fits_so an frame _ same h = tt
+
+pub fits_run : (an : Analysis) (w : World) (s : State) (frame : Frame) (span : Span) (kind : StatKind) → Fit an → Runs an w s frame
+    → Inside frame (of_stat (the_stat span kind)) (stats_of (the_stat span kind)) → FitsRun an frame kind
+fits_run an w s frame span kind fit r inside = fits_so an frame kind (reads_same an w s frame fit r)
+    (all_contained (IsFitStat (rules_of an frame)) (stats_of_block frame.reading.block) (the_stat span kind) (fits an w s frame fit r).statements
+    (inside.stats (the_stat span kind) (contains_head (the_stat span kind) (stats_of_kind kind)))).1
 
 -- `a.p` is a builtin's path, or stands for nothing
 abbrev IndexMeans : Option Use → Type 0
@@ -187,11 +215,18 @@ module _ (an : Analysis) (l : Layer) (fit : Fit an) (straight : IsStraight an.pr
       compound_forward an l fit fwd w s frame map span id target_span name op e (plain_of an w s frame id target_span name fit r is) f r h inside placed
   stat_kind w s frame map span (CallStat e) is f r h inside placed = call_stat_forward an l fwd w s frame map span e f r h inside placed
   stat_kind w s frame map span (Do body) is f r h inside placed = do_forward an l fwd w s frame map span body f r h inside placed
+  stat_kind w s frame map span (While cond body) is f r h inside placed = while_forward an l fwd w s frame map span cond body f r h inside placed
+  stat_kind w s frame map span (Repeat body cond) is f r h inside placed = repeat_forward an l fwd w s frame map span body cond f r h inside placed
+  stat_kind w s frame map span (NumFor (the_bind name bind_span typ) from to by body) is f r h inside placed =
+      number_forward an l fit fwd frame map span bind_span name typ from to by body (reads_same an w s frame fit r) inside placed w s f r h
+  stat_kind w s frame map span (GenFor binds values body) is f r h inside placed = iteration_forward an l fit fwd frame map span binds values body inside placed w s f r h
   stat_kind w s frame map span (If arms last) is f r h inside placed = if_forward an l fwd w s frame map span arms last f r h inside placed
   stat_kind w s frame map span (Local binds values) is f r h inside placed = local_forward an l fit fwd w s frame map span binds values f r h inside placed
   stat_kind w s frame map span (TypeAlias exported name generics typ) is f r h inside placed = idle_forward an l w s frame map span (TypeAlias exported name generics typ) tt f h
   stat_kind w s frame map span (TypeFunction exported name body) is f r h inside placed = idle_forward an l w s frame map span (TypeFunction exported name body) tt f h
   stat_kind w s frame map span (Return values) is f r h inside placed = return_forward an l fwd w s frame map span values f r h inside placed
+  stat_kind w s frame map span Break is f r h inside placed = break_forward an l w s frame map span f
+  stat_kind w s frame map span Continue is f r h inside placed = continue_forward an l w s frame map span f
   stat_kind w s frame map span _ is f r h inside placed = cc
 
   pub stat_forward : (w : World) (s : State) (frame : Frame) (map : TypeMap) (span : _) (kind : StatKind) → Fine an w s → Runs an w s frame → Held an frame map s
@@ -287,6 +322,14 @@ module _ (an : Analysis) (l : Layer) (fit : Fit an) (straight : IsStraight an.pr
       call_stat_backward an l fit fwd bwd w s frame map span e behind breaks_to continues_to f r h inside placed marked ending t q y
   stat_pays_kind w s frame map span (Do body) behind breaks_to continues_to is f r h inside placed marked spares ending t q y =
       do_backward an l fwd bwd w s frame map span body behind breaks_to continues_to f r h inside placed marked spares ending t q y
+  stat_pays_kind w s frame map span (While cond body) behind breaks_to continues_to is f r h inside placed marked spares ending t q y =
+      while_backward an l bwd w s frame map span cond body behind breaks_to continues_to f r h inside placed marked spares ending t q y
+  stat_pays_kind w s frame map span (Repeat body cond) behind breaks_to continues_to is f r h inside placed marked spares ending t q y =
+      repeat_backward an l bwd w s frame map span body cond behind breaks_to continues_to f r h inside placed marked spares ending t q y
+  stat_pays_kind w s frame map span (NumFor (the_bind name bind_span typ) from to by body) behind breaks_to continues_to is f r h inside placed marked spares ending t q y =
+      number_backward an l fit fwd frame map span bind_span name typ from to by body (reads_same an w s frame fit r) inside placed bwd behind breaks_to continues_to marked spares w s f r h ending t q y
+  stat_pays_kind w s frame map span (GenFor binds values body) behind breaks_to continues_to is f r h inside placed marked spares ending t q y =
+      iteration_backward an l fit fwd frame map span binds values body inside placed bwd behind breaks_to continues_to marked spares w s f r h ending t q y
   stat_pays_kind w s frame map span (If arms last) behind breaks_to continues_to is f r h inside placed marked spares ending t q y =
       if_backward an l fit fwd bwd w s frame map span arms last behind breaks_to continues_to f r h inside placed marked spares ending t q y
   stat_pays_kind w s frame map span (Local binds values) behind breaks_to continues_to is f r h inside placed marked spares ending t q y =
@@ -297,6 +340,10 @@ module _ (an : Analysis) (l : Layer) (fit : Fit an) (straight : IsStraight an.pr
       idle_backward an l s frame span (TypeFunction exported name body) behind breaks_to continues_to tt ending t q y
   stat_pays_kind w s frame map span (Return values) behind breaks_to continues_to is f r h inside placed marked spares ending t q y =
       return_backward an l fit fwd bwd w s frame map span values behind breaks_to continues_to f r h inside placed marked ending t q y
+  stat_pays_kind w s frame map span Break behind breaks_to continues_to is f r h inside placed marked spares ending t q y =
+      break_backward an l s frame span behind breaks_to continues_to ending t q y
+  stat_pays_kind w s frame map span Continue behind breaks_to continues_to is f r h inside placed marked spares ending t q y =
+      continue_backward an l s frame span behind breaks_to continues_to ending t q y
   stat_pays_kind w s frame map span _ behind breaks_to continues_to is f r h inside placed marked spares ending t q y = cc
 
   pub stat_pays : (w : World) (s : State) (frame : Frame) (map : TypeMap) (span : _) (kind : StatKind) (behind breaks_to continues_to : Context) → Fine an w s

@@ -1,7 +1,7 @@
--- Straight code: no function bodies, no writes to fields and no loops.
+-- Straight code: no function bodies and no writes to fields.
 use Rattle.std.specs.Prelude.{◌≡◌, Bool, true, false, not, ◌&&◌, Option, Some}
 use Rattle.std.specs.List.{list_all}
-use Rattle.luau_tree.specs.Tree.{Expr, the_expr, Exprs, no_exprs, more_exprs, ExprKind, FunctionExpr, NameExpr, Stat, the_stat, StatKind, Assign, Compound, CallStat, Do, If, Local, TypeAlias, TypeFunction, Return}
+use Rattle.luau_tree.specs.Tree.{Expr, the_expr, Exprs, no_exprs, more_exprs, ExprKind, FunctionExpr, NameExpr, Stat, the_stat, StatKind, Assign, Compound, CallStat, Do, While, Repeat, If, NumFor, GenFor, Local, TypeAlias, TypeFunction, Return, Break, Continue}
 use Rattle.luau_run.specs.ReadModule.{Use, UseBuiltin, ReadModule}
 use Rattle.luau_run.specs.SyntaxNode.{SyntaxNode, AnExpr, ABody, ABind, of_block}
 use Rattle.luau_run.specs.Program.{Program}
@@ -31,17 +31,23 @@ is_plain_name reading (the_expr id span (NameExpr name)) = not (is_path (reading
 is_plain_name reading _ = false
 
 -- whether a statement is straight: a call, `local`, an assignment to names, a compound one to a name that isn't a builtin's, `do`,
--- `if`, `return`, or one that declares a type
+-- `while`, `repeat`, `for`, `if`, `return`, `break`, `continue`, or one that declares a type
 abbrev pub is_straight_stat : ReadModule → StatKind → Bool
 is_straight_stat reading (Assign targets values) = are_names targets
 is_straight_stat reading (Compound target op e) = is_plain_name reading target
 is_straight_stat reading (CallStat e) = true
 is_straight_stat reading (Do body) = true
+is_straight_stat reading (While cond body) = true
+is_straight_stat reading (Repeat body cond) = true
+is_straight_stat reading (NumFor bind from to by body) = true
+is_straight_stat reading (GenFor binds values body) = true
 is_straight_stat reading (If arms last) = true
 is_straight_stat reading (Local binds values) = true
 is_straight_stat reading (TypeAlias exported name generics typ) = true
 is_straight_stat reading (TypeFunction exported name body) = true
 is_straight_stat reading (Return values) = true
+is_straight_stat reading Break = true
+is_straight_stat reading Continue = true
 is_straight_stat reading _ = false
 
 -- whether a node of a module is straight, which no function body is; and whether a statement is

@@ -30,6 +30,6 @@ pub fn reported_modules_are_straight()
     ensures compound { is_straight_module (local_added NilExpr).reading ≡ true }
     ensures index { is_straight_module (of_nil indexed).reading ≡ true }
     ensures method { is_straight_module (of_nil method_called).reading ≡ true }
-    ensures no_loop { is_straight_module counting_to_nil.reading ≡ false }
+    ensures bound { is_straight_module counting_to_nil.reading ≡ true }
     ensures no_literal { is_straight_module in_literal.reading ≡ false }
 {}
