@@ -1,0 +1,4 @@
+//! What the rules of a module say of the parameters of its functions.
+#![tactic(auto)]
+
+pub mod laws;
