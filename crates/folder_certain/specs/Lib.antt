@@ -1,0 +1,2 @@
+pub mod OfTexts
+pub mod Examples

@@ -1,0 +1,5 @@
+//! That what the rules report of a folder is certain, for straight code. There is no program here: this is a law.
+#![tactic(auto)]
+
+pub mod examples;
+pub mod laws;
