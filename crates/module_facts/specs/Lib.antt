@@ -1,0 +1,5 @@
+pub mod Facts
+pub mod Ordered
+pub mod Targets
+pub mod Touched
+pub mod Later
