@@ -17,3 +17,6 @@ mod steps;
 pub use context::Context;
 pub use following::{followed, pass};
 pub use operations::{branch, join, meet, only_for, restrict, strip_all, strip_name};
+
+#[cfg(test)]
+mod tests;
