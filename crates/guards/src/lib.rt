@@ -14,3 +14,6 @@ mod tests_of_locals;
 
 pub use combining::{and_guard, not_guard, or_guard};
 pub use guarding::{Guard, guard_of};
+
+#[cfg(test)]
+mod tests;
