@@ -2,10 +2,12 @@
 use Rattle.std.specs.Prelude.{ℕ, zero, suc, Bool, not, ◌==◌, ◌||◌, ◌&&◌, List, [], ◌∷◌, ◌++◌, length, if◌then◌else◌}
 use Rattle.type_arena.specs.Term.{Term}
 use Rattle.type_normal.specs.Cut.{cut_up}
-use Rattle.type_normal.specs.Kinds.{unknown}
+use Rattle.type_normal.specs.HeapFree.{widen}
+use Rattle.type_normal.specs.Kinds.{unknown, falsy, truthy}
+use Rattle.type_normal.specs.Operations.{union, meet}
 use Rattle.type_normal.specs.Rows.{is_empty}
 use Rattle.report_rules.specs.Seen.{Seen, SeenExpr, SeenBody}
-use Rattle.report_rules.specs.TypeMap.{TypeMap}
+use Rattle.report_rules.specs.TypeMap.{TypeMap, joined, not_given}
 use Rattle.rule_state.specs.Work.{Work}
 
 -- another type is at hand
@@ -44,6 +46,14 @@ added_to (list ∷ lists) work = record work { lists = (list ++ work.value ∷ [
 abbrev pub added : Work → Work
 added work = added_to work.lists work
 
+-- the innermost list is used up, and makes a type with the one at hand
+abbrev pub used_from : (List Term → Term → Term) → List (List Term) → Work → Work
+used_from f [] work = work
+used_from f (list ∷ lists) work = record work { value = f list work.value; lists = lists }
+
+abbrev pub used : (List Term → Term → Term) → Work → Work
+used f work = used_from f work.lists work
+
 -- all but the first of some
 abbrev pub rest_of : {X : Type 0} → List X → List X
 rest_of [] = []
@@ -52,6 +62,34 @@ rest_of (x ∷ xs) = xs
 -- the innermost list is let go
 abbrev pub unlisted : Work → Work
 unlisted work = record work { lists = rest_of work.lists }
+
+-- the type at a position of a list: nil past its end, or anything if the last value expands
+abbrev pub given_at : (expanding : Bool) → ℕ → List Term → Term
+given_at expanding n [] = not_given expanding
+given_at expanding zero (type ∷ types) = type
+given_at expanding (suc n) (type ∷ types) = given_at expanding n types
+
+-- the type at hand is that at a position of the innermost list
+abbrev pub picked_from : (expanding : Bool) → ℕ → List (List Term) → Work → Work
+picked_from expanding n [] work = work
+picked_from expanding n (list ∷ lists) work = record work { value = given_at expanding n list }
+
+abbrev pub picked : (expanding : Bool) → ℕ → Work → Work
+picked expanding n work = picked_from expanding n work.lists work
+
+-- types, of which some are widened
+abbrev pub widened_where : List Bool → List Term → List Term
+widened_where [] types = types
+widened_where (flag ∷ flags) [] = []
+widened_where (flag ∷ flags) (type ∷ types) = (if flag then widen type else type) ∷ widened_where flags types
+
+-- the innermost list changes
+abbrev pub relisted_from : (List Term → List Term) → List (List Term) → Work → Work
+relisted_from f [] work = work
+relisted_from f (list ∷ lists) work = record work { lists = f list ∷ lists }
+
+abbrev pub relisted : (List Term → List Term) → Work → Work
+relisted f work = relisted_from f work.lists work
 
 -- what is known of a local that may be loose
 abbrev pub known_of : (is_loose : Bool) → ℕ → TypeMap → Term
@@ -91,6 +129,14 @@ ended_in (maps ∷ ends) work = record work { ends = (maps ++ work.map ∷ []) �
 abbrev pub end_added : Work → Work
 end_added work = ended_in work.ends work
 
+-- the map is that after the branches with the innermost ends
+abbrev pub joined_from : List (List TypeMap) → Work → Work
+joined_from [] work = work
+joined_from (maps ∷ ends) work = record work { map = joined maps; ends = ends }
+
+abbrev pub ends_joined : Work → Work
+ends_joined work = joined_from work.ends work
+
 -- one more was seen
 abbrev pub with_seen : Seen → Work → Work
 with_seen seen work = record work { seen = work.seen ++ seen ∷ [] }
@@ -117,3 +163,7 @@ closed_from (place ∷ pending) work = record work { seen = retyped_at work.valu
 
 abbrev pub closed : Work → Work
 closed work = closed_from work.pending work
+
+-- the type that `and` or `or` has: what the left side stops with, or the right side
+abbrev pub chosen : (is_and : Bool) → Term → Term → Term
+chosen is_and left right = union (meet left (if is_and then falsy else truthy)) right
