@@ -20,7 +20,7 @@ use Rattle.other_ends.proofs.Fork as fork
 use Rattle.other_ends.proofs.Fork.{Fork, NextLate, NotAt, Deep}
 use Rattle.other_ends.proofs.ForkModules.{module_forked, passed_whatever_follows}
 use Rattle.wider_rules.specs.Order.{Has, Ordered}
-use Rattle.wider_rules.proofs.Beside.{Wide, Opposed, Loose, Pair, Tidy, Rel}
+use Rattle.wider_rules.proofs.Beside.{Wide, Opposed, Loose, Pair, Plain, Tidy, Rel}
 use Rattle.wider_rules.proofs.BesideModules.{module_rel}
 use Rattle.wider_rules.proofs.Runs.{rules_by, setting_by, bounded_by, anywhere, sum_of, tidy_above, among_all, ok_same}
 use Rattle.wider_rules.proofs.Settled.{far_less, begin_less}
@@ -28,7 +28,7 @@ use Rattle.first_faults.proofs.Splits.{has_behind, late_behind, early_before}
 use Rattle.first_faults.proofs.Told.{one_line, told, Overtakes}
 
 -- the token at an offset stands deeper than a token may
-abbrev deep_setting : ℕ → ℕ → ℕ → Setting
+abbrev pub deep_setting : ℕ → ℕ → ℕ → Setting
 deep_setting at len deep = record { rules = too_deep_at at deep; limit = deep; len = len }
 
 left_of : (a b : Bool) → (a && b) ≡ true → a ≡ true
@@ -43,7 +43,7 @@ both_yes : (a b : Bool) → a ≡ true → b ≡ true → (a && b) ≡ true
 both_yes true b h k = k
 both_yes false b h k = absurd (true≢false (sym h))
 
-deep_bounded : (at len deep : ℕ) → Bounded (deep_setting at len deep)
+pub deep_bounded : (at len deep : ℕ) → Bounded (deep_setting at len deep)
 deep_bounded at len deep t m h = leb-true m deep (left_of (nat_le m deep) (not (t.span.start == at) || nat_lt max_level m) h)
 
 deep_more : (at deep more : ℕ) (t : Tok) (m : ℕ) → deep ≤ more → (nat_le m deep && (not (t.span.start == at) || nat_lt max_level m)) ≡ true → (nat_le m more && (not (t.span.start == at) || nat_lt max_level m)) ≡ true
@@ -217,7 +217,7 @@ module _ (text : List ℕ) where
     other_goes (Ok y) (inr (inr h)) = absurd h
     other_goes (Err m) (inr (inr h)) = let c : t.span.start + 1 ≤ t.span.start = h.1 in absurd (omega arith)
 
-    deep_goes : (k : ℕ) → max_level + 2 ≤ k → told text all ≡ Err (Nesting t.span.start) → Far (t.span.start + 1) (deep_run k)
+    pub deep_goes : (k : ℕ) → max_level + 2 ≤ k → told text all ≡ Err (Nesting t.span.start) → Far (t.span.start + 1) (deep_run k)
     deep_goes k h e = other_goes (deep_run k) (subst (λ z. Rel against 0 max_level z (deep_run k)) e (against_rel k h))
 
     -- the parser with all levels, beside the one that takes a token at greater levels alone
@@ -243,9 +243,26 @@ module _ (text : List ℕ) where
       reads_too x (Ok y) (inr (inr h)) k = absurd h
       reads_too x (Err d) (inr (inr h)) k = let c : t.span.start + 1 ≤ t.span.start = subst (λ z. IsLate (t.span.start + 1) z) h.2 k in absurd (omega arith)
 
-      deep_reads : (k : ℕ) → deep + 2 ≤ k → (x : Block × Place) → module_with (setting_by anywhere len deep) (deep + 2) (before all) ≡ Ok x → Far (t.span.start + 1) (deep_run k) → deep_run k ≡ Ok x
+      pub deep_reads : (k : ℕ) → deep + 2 ≤ k → (x : Block × Place) → module_with (setting_by anywhere len deep) (deep + 2) (before all) ≡ Ok x → Far (t.span.start + 1) (deep_run k) → deep_run k ≡ Ok x
       deep_reads k h x e far =
           reads_too x (deep_run k) (subst (λ z. Rel loosely 0 deep z (deep_run k)) e
+          (module_rel loosely (deep + 2) k h (omega arith) all (tidy_split t.span.start front t behind refl early late) (among_all all) tt)) far
+
+      refuses_too : (e : ParseError) (r : Outcome Block) → Plain e → Rel loosely {A = Block} 0 deep (Err e) r → Far (t.span.start + 1) r → r ≡ Err e
+      refuses_too e (Ok y) k (inl h) far = absurd h
+      refuses_too e (Err d) k (inl h) far = ap (λ z. Err z) (sym h.0)
+      refuses_too (Unexpected n) r k (inr (inl h)) far = absurd h.0
+      refuses_too (UnexpectedEnd n) r k (inr (inl h)) far = absurd h.0
+      refuses_too (AmbiguousCall n) r k (inr (inl h)) far = absurd k
+      refuses_too (Nesting n) r k (inr (inl h)) far = absurd k
+      refuses_too (Lex d) r k (inr (inl h)) far = absurd k
+      refuses_too NoMemory r k (inr (inl h)) far = absurd k
+      refuses_too e (Ok y) k (inr (inr h)) far = absurd h
+      refuses_too e (Err d) k (inr (inr h)) far = let c : t.span.start + 1 ≤ t.span.start = subst (λ z. IsLate (t.span.start + 1) z) h.2 far in absurd (omega arith)
+
+      pub deep_refuses : (k : ℕ) → deep + 2 ≤ k → (e : ParseError) → Plain e → module_with (setting_by anywhere len deep) (deep + 2) (before all) ≡ Err e → Far (t.span.start + 1) (deep_run k) → deep_run k ≡ Err e
+      deep_refuses k h e plain q far =
+          refuses_too e (deep_run k) plain (subst (λ z. Rel loosely 0 deep z (deep_run k)) q
           (module_rel loosely (deep + 2) k h (omega arith) all (tidy_split t.span.start front t behind refl early late) (among_all all) tt)) far
 
   -- ---- a tree in which a token stands too deep, with more levels
@@ -343,7 +360,7 @@ module _ (text : List ℕ) where
 
   module _ (front : List Tok) (t : Tok) (order : Ordered (front ++ t ∷ [])) where
     abbrev last_fork : (rest : List Tok) → BeginFrom (t.span.start + 1) rest → Fork
-    last_fork rest late = record { bound = t.span.start + 1; stands = λ m. nat_le m max_level; token = t; one = []; other = rest; one_late = tt; other_late = late; one_next = tt }
+    last_fork rest late = record { bound = t.span.start + 1; stands = λ m. nat_le m max_level; upto = true; token = t; one = []; other = rest; one_late = tt; other_late = late; one_next = tt; dotted = λ e. absurd (true≢false e) }
 
     ends_with : (us : List Tok) → us ++ t ∷ [] ≡ [] → ⊥
     ends_with [] e = never_empty t [] e
@@ -364,7 +381,7 @@ module _ (text : List ℕ) where
         let w = last_fork rest k.1.2 in
         let far : Far (t.span.start + 1) (told text that) =
         last_far rest k.1.2 (told text (front ++ t ∷ [])) (told text that) x
-        ((module_forked (setting_by (one_line text) len max_level) w (record { stands = λ m. refl; level = λ m. refl }) (max_level + 2)).near (before (front ++ t ∷ [])) (before that)
+        ((module_forked (setting_by (one_line text) len max_level) w (record { stands = λ m. refl; level = λ _ m. refl }) (max_level + 2)).near (before (front ++ t ∷ [])) (before that)
         (record { between = front; one = refl; other = refl; last = refl; level = refl })) q h in
         let most = k.0 + (max_level + 2) in
         let r = bare_is_read (deep_setting t.span.start len k.0) (deep_bounded t.span.start len k.0) (k.0 + 2) (omega arith) that k.1.1 k.1.3 in

@@ -1,6 +1,6 @@
 -- A text with a tree has no fault.
-use Rattle.std.proofs.Common.{◌≡◌, ℕ, ◌+◌, ◌≤◌, Bool, true, false, List, [], ◌∷◌, ◌++◌, length, refl, sym, ◌∙◌, ap, subst, inl, inr, arith, if◌then◌else◌, append_assoc, append-nil}
-use Rattle.std.specs.Prelude.{Ok, Err, nat_le}
+use Rattle.std.proofs.Common.{◌≡◌, ℕ, ◌+◌, Bool, true, false, List, [], ◌∷◌, ◌++◌, length, refl, sym, ◌∙◌, subst, inl, inr, arith, if◌then◌else◌, append_assoc, append-nil}
+use Rattle.std.specs.Prelude.{Ok, Err}
 use Rattle.luau_tree.specs.Tree.{Block}
 use Rattle.luau_lex.specs.Tokens.{Tok}
 use Rattle.luau_grammar.specs.declared.error.ParseError.{ParseError}
@@ -14,18 +14,12 @@ use Rattle.luau_grammar.specs.ReadPhrases as phrases
 use Rattle.luau_grammar.specs.ReadModules.{module_with, readers}
 use Rattle.luau_grammar.proofs.Families.{bare_is_read}
 use Rattle.luau_grammar.proofs.OneTree.{at_end}
-use Rattle.grammar_faults.specs.Fronts.{BeginFrom}
-use Rattle.grammar_faults.proofs.Local as near
-use Rattle.grammar_faults.proofs.Local.{Far}
-use Rattle.fault_places.specs.Faults.{IsFront, IsAmbiguous, IsTooDeep, CanStandTooDeep, IsFault, IsFaultAt, IsFirstFault, HasTree}
-use Rattle.other_ends.proofs.Fork as fork
-use Rattle.other_ends.proofs.Fork.{Fork, Link}
-use Rattle.other_ends.proofs.ForkModules.{module_forked}
+use Rattle.fault_places.specs.Faults.{IsFront, IsAmbiguous, IsTooDeep, IsFault, IsFaultAt, IsFirstFault}
 use Rattle.wider_rules.specs.Order.{Ordered}
 use Rattle.wider_rules.proofs.Runs.{rules_by, setting_by, bounded_by, anywhere, wider_tree}
-use Rattle.wider_rules.proofs.Settled.{far_less, begin_less}
-use Rattle.first_faults.proofs.Splits.{late_behind, early_before}
-use Rattle.first_faults.proofs.Told.{one_line, lined, lined_calls, told, is_front}
+use Rattle.wider_rules.proofs.Settled.{begin_less}
+use Rattle.first_faults.proofs.Splits.{late_behind}
+use Rattle.first_faults.proofs.Told.{one_line, lined, lined_calls, told}
 use Rattle.first_faults.proofs.Levels.{not_deep_read, not_deep_end}
 
 -- ---- what is read ends where the tokens do

@@ -8,12 +8,13 @@ use Rattle.luau_lex.specs.Lexed.{Lexed}
 use Rattle.luau_grammar.specs.declared.error.ParseError.{ParseError}
 use Rattle.luau_grammar.specs.declared.error.ParseError.TheVariants.{Unexpected, UnexpectedEnd, AmbiguousCall, Nesting}
 use Rattle.grammar_faults.specs.Fronts.{BeginFrom}
-use Rattle.fault_places.specs.Faults.{IsFront, IsFault, IsFaultAt, IsFirstFault, HasNoFaultAt, BeginBefore, HasTree}
+use Rattle.fault_places.specs.Faults.{IsFault, IsFaultAt, IsFirstFault, HasNoFaultAt, BeginBefore, HasTree}
 use Rattle.wider_rules.specs.Order.{Ordered}
 use Rattle.wider_rules.proofs.Settled.{begin_less}
 use Rattle.first_faults.proofs.Splits.{late_behind, early_before}
-use Rattle.first_faults.proofs.Told.{told, Passes, Overtakes, passes_over, is_front, deep_token, OvertakesAll, one_of, over_call, over_deep, over_unexpected, ambiguous, unexpected, at_the_end}
-use Rattle.first_faults.proofs.Levels.{not_deep, can_stand, not_deep_last}
+use Rattle.first_faults.proofs.Told.{told, Passes, Overtakes, passes_over, is_front, OvertakesAll, one_of, over_call, over_deep, over_unexpected, ambiguous, too_deep, unexpected, at_the_end}
+use Rattle.first_faults.proofs.Levels.{not_deep, not_deep_last}
+use Rattle.first_faults.proofs.Deepest.{stands_too_deep}
 
 module _ (text : List ℕ) where
   behind_two : (front : List Tok) (t u : Tok) (us : List Tok) → Ordered (front ++ t ∷ u ∷ us) → Ordered ((front ++ t ∷ []) ++ u ∷ us)
@@ -61,12 +62,19 @@ module _ (text : List ℕ) where
       subst (λ z. IsFirstFault text [] z (AmbiguousCall at)) (sym k.3)
       (walk ts o (AmbiguousCall at) h t behind (λ front v q k. no_fault ts o (AmbiguousCall at) h front v t behind q k (let x : t.span.start ≤ at = omega arith in x)) [] front k.3 (over_call text at front early) (sym start, k.6))
 
-  pub deep_fault : (front : List Tok) (t u : Tok) (us : List Tok) → Ordered (front ++ t ∷ u ∷ us) → told text (front ++ t ∷ u ∷ us) ≡ Err (Nesting t.span.start) → IsFront (front ++ t ∷ []) u
-      → IsFault text (front ++ t ∷ u ∷ us) (Nesting t.span.start)
-  deep_fault front t u us o h k =
-      let d = deep_token text front t (u ∷ us) o h in
-      walk (front ++ t ∷ u ∷ us) o (Nesting t.span.start) h t (u ∷ us) (λ before v q c. no_fault (front ++ t ∷ u ∷ us) o (Nesting t.span.start) h before v t (u ∷ us) q c (let x : t.span.start ≤ t.span.start = omega arith in x)) [] front refl
-      (over_deep text t.span.start front (early_before front t (u ∷ us) o)) (refl, d.0, d.1, inl (can_stand text front t u us o h (late_two front t u us o) k))
+  pub deep_fault : (ts : List Tok) → Ordered ts → (at : ℕ) → told text ts ≡ Err (Nesting at) → IsFault text ts (Nesting at)
+  deep_fault ts o at h =
+      let k = too_deep text ts o at h in
+      let front = k.0 in
+      let t = k.1 in
+      let behind = k.2 in
+      let start : t.span.start ≡ at = k.4 in
+      let p = subst Ordered k.3 o in
+      let early = subst (λ z. BeginBefore z front) start (early_before front t behind p) in
+      let g = subst (λ z. told text z ≡ Err (Nesting t.span.start)) k.3 (h ∙ ap (λ z. Err (Nesting z)) (sym start)) in
+      subst (λ z. IsFirstFault text [] z (Nesting at)) (sym k.3)
+      (walk ts o (Nesting at) h t behind (λ front v q k. no_fault ts o (Nesting at) h front v t behind q k (let x : t.span.start ≤ at = omega arith in x)) [] front k.3 (over_deep text at front early)
+      (sym start, k.6.0, k.6.1, stands_too_deep text front t behind p g))
 
   -- ---- an unexpected token
 

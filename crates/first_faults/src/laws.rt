@@ -33,7 +33,7 @@ pub fn what_is_told_stands_at_its_least_place()
 {}
 
 /// What the parser of a text tells is its fault: an unexpected token, an unexpected end, an ambiguous
-/// call, and a token that stands too deep, where the text goes on with the token behind it.
+/// call, and a token that stands too deep.
 pub fn what_is_told_is_the_fault()
     ensures unexpected { (text : List ℕ) (ts : List Tok) (at : ℕ) → Ordered ts →
         module_with (strictly text) max_depth (before ts) ≡ Err (Unexpected at) →
@@ -44,10 +44,9 @@ pub fn what_is_told_is_the_fault()
     ensures ambiguous { (text : List ℕ) (ts : List Tok) (at : ℕ) → Ordered ts →
         module_with (strictly text) max_depth (before ts) ≡ Err (AmbiguousCall at) →
         IsFault text ts (AmbiguousCall at) }
-    ensures too_deep { (text : List ℕ) (front : List Tok) (t u : Tok) (behind : List Tok) →
-        Ordered (front ++ t ∷ u ∷ behind) →
-        module_with (strictly text) max_depth (before (front ++ t ∷ u ∷ behind)) ≡ Err (Nesting t.span.start) →
-        IsFront (front ++ t ∷ []) u → IsFault text (front ++ t ∷ u ∷ behind) (Nesting t.span.start) }
+    ensures too_deep { (text : List ℕ) (ts : List Tok) (at : ℕ) → Ordered ts →
+        module_with (strictly text) max_depth (before ts) ≡ Err (Nesting at) →
+        IsFault text ts (Nesting at) }
 {}
 
 /// Tokens of a text with a tree have no fault.

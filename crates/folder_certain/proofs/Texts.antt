@@ -1,4 +1,4 @@
--- A folder of texts is a folder, and straight ones are certain.
+-- A folder of texts is a folder, and what the rules report of a folder is certain.
 use Rattle.std.proofs.Common.{◌≡◌, ℕ, List, [], ◌∷◌, sym, subst}
 use Rattle.std.specs.Prelude.{None}
 use Rattle.std.specs.List.{AllByRecursion}
@@ -8,8 +8,7 @@ use Rattle.luau_scope.specs.Refusals.{refusal_of}
 use Rattle.luau_run.specs.Certain.{Certain}
 use Rattle.type_decl.specs.Signatures.{Signature}
 use Rattle.report_rules.specs.Reports.{places_of_program}
-use Rattle.straight_certain.specs.Straight.{IsStraight}
-use Rattle.straight_certain.proofs.Sound.{straight_certain}
+use Rattle.reports_certain.proofs.Sound.{all_certain}
 use Rattle.tree_readings.specs.Apart.{StandsApart}
 use Rattle.tree_readings.proofs.Apart.{apart}
 use Rattle.reading_fits.specs.OfFolder.{paths_of}
@@ -39,10 +38,10 @@ folder_of_texts table texts modules f = record {
   trees = all_texts table texts modules f.trees f.accepted;
 }
 
-pub folder_certain : (table : List (List ℕ × Signature)) (modules : List TreeModule) → IsFolder table modules → IsStraight (analysis_of table modules).program
+pub folder_certain : (table : List (List ℕ × Signature)) (modules : List TreeModule) → IsFolder table modules
     → Certain (analysis_of table modules).program (places_of_program (rules_in table modules))
-folder_certain table modules folder straight = straight_certain (analysis_of table modules) straight (analysis_fits table modules folder)
+folder_certain table modules folder = all_certain (analysis_of table modules) (analysis_fits table modules folder)
 
-pub texts_certain : (table : List (List ℕ × Signature)) (texts : List (List ℕ)) (modules : List TreeModule) → IsFolderOfTexts table texts modules → IsStraight (analysis_of table modules).program
+pub texts_certain : (table : List (List ℕ × Signature)) (texts : List (List ℕ)) (modules : List TreeModule) → IsFolderOfTexts table texts modules
     → Certain (analysis_of table modules).program (places_of_program (rules_in table modules))
-texts_certain table texts modules f straight = folder_certain table modules (folder_of_texts table texts modules f) straight
+texts_certain table texts modules f = folder_certain table modules (folder_of_texts table texts modules f)

@@ -1,4 +1,4 @@
-//! That what the rules report of a folder is certain, for straight code. There is no program here: this is a law.
+//! That what the rules report of a folder is certain. There is no program here: this is a law.
 #![tactic(auto)]
 
 pub mod examples;

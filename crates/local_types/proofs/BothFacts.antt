@@ -1,5 +1,5 @@
 -- The parts of maps, side by side, and what is built of them.
-use Rattle.std.proofs.Common.{◌≡◌, ℕ, zero, suc, ◌+◌, ◌*◌, ◌/◌, ◌<◌, ◌≤◌, max, [], ◌∷◌, refl, sym, ap, ◌∙◌, subst, arith}
+use Rattle.std.proofs.Common.{◌≡◌, ℕ, zero, suc, ◌+◌, ◌/◌, ◌<◌, max, [], refl, sym, ap, ◌∙◌, subst, arith}
 use Rattle.std.specs.Prelude.{List, Some, None, Bool, true, false, All, IsTrue, if◌then◌else◌}
 use Rattle.std.proofs.lemmas.Option.{same_Some}
 use Rattle.type_arena.specs.Store.{has}
@@ -14,7 +14,7 @@ use Rattle.local_types.specs.declared.node.MapNode.{MapNode}
 use Rattle.local_types.specs.declared.node.MapNode.TheVariants.{All as Everywhere, Split}
 use Rattle.local_types.specs.declared.node.Parts.{Parts}
 use Rattle.local_types.specs.declared.types.LocalTypes.{LocalTypes}
-use Rattle.local_types.proofs.MapFacts.{by_number-same, by_number-map}
+use Rattle.local_types.proofs.MapFacts.{by_number-map}
 use Rattle.local_types.proofs.GrowFacts.{odd_stands, even_stands, map_stands, entry_stays, grows_on, built}
 
 -- one value everywhere is it by numbers too

@@ -1,10 +1,10 @@
 -- What calls on maps, one after another, add to them, and what stays.
-use Rattle.std.proofs.Common.{◌≡◌, ℕ, zero, suc, ◌+◌, ◌<◌, ◌≤◌, List, [], ◌∷◌, ◌++◌, length, get_or, refl, sym, ap, ◌∙◌, subst, arith, vec_len}
-use Rattle.std.specs.Prelude.{Result, Ok, Err, IfOk, OnErr, Option, Some, None, Bool, true, false, slice_get, is_some, All, Contains, IsTrue, if◌then◌else◌}
-use Rattle.std.proofs.lemmas.Option.{slice_get_within, slice_get_past, slice_get-get_or}
+use Rattle.std.proofs.Common.{◌≡◌, ℕ, ◌<◌, List, [], ◌∷◌, ◌++◌, length, get_or, refl, sym, ap, ◌∙◌, subst, arith}
+use Rattle.std.specs.Prelude.{Result, Ok, Err, IfOk, OnErr, Option, Some, None, Bool, slice_get, All, IsTrue}
+use Rattle.std.proofs.lemmas.Option.{slice_get_within, slice_get-get_or}
 use Rattle.std.proofs.lemmas.List.Elements.{All-nil, All-cons, All-contains}
 use Rattle.type_arena.specs.Arena.{home_of, below_of, store_of}
-use Rattle.type_arena.specs.Homes.{Given, Reaches, itself, through, ReachesHome, by_ref, by_literal, MayUse, own_home, given_literal, reached, literal_homes}
+use Rattle.type_arena.specs.Homes.{Given, Reaches, itself, through, by_ref, by_literal, MayUse, own_home, given_literal, reached, literal_homes}
 use Rattle.type_arena.specs.Meaning.{term_of}
 use Rattle.type_arena.specs.Store.{Store, has, node_at, refs_of, Keeps}
 use Rattle.type_arena.specs.Term.{Term}
@@ -16,7 +16,7 @@ use Rattle.type_normal.proofs.AddsFacts.{there_kept}
 use Rattle.type_normal.specs.Growing.{given_refs}
 use Rattle.local_types.specs.Entries.{arena_of, arenas_of, type_of, entry_of, entries_of_node, IsMap}
 use Rattle.local_types.specs.Growing.{HaveHomes, StaysWithin, AreWithin, IsMadeOf, Grows}
-use Rattle.local_types.specs.Maps.{by_number, ref_by, ref_of, types_in, places_in, TypesAreThere, PartsComeBefore, KeepsMaps}
+use Rattle.local_types.specs.Maps.{by_number, ref_by, ref_of, types_in, places_in, TypesAreThere, PartsComeBefore}
 use Rattle.local_types.specs.declared.node.LocalMap.{LocalMap}
 use Rattle.local_types.specs.declared.node.MapNode.{MapNode}
 use Rattle.local_types.specs.declared.node.MapNode.TheVariants.{All as Everywhere, Split}

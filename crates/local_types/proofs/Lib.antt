@@ -3,3 +3,7 @@ pub mod GrowFacts
 pub mod PutFacts
 pub mod BothFacts
 pub mod PropFacts
+pub mod ForgetFacts
+pub mod RefineFacts
+pub mod JoinFacts
+pub mod NamedFacts

@@ -1,11 +1,9 @@
 -- What the maps at places of a list of nodes have.
-use Rattle.std.proofs.Common.{◌≡◌, ℕ, zero, suc, ◌+◌, ◌<◌, ◌≤◌, ◌/◌, ◌%◌, List, [], ◌∷◌, ◌++◌, length, get_or, refl, sym, ap, ◌∙◌, subst, arith}
-use Rattle.std.specs.Prelude.{Option, Some, None, Bool, true, false, ◌==◌, slice_get, All, IsTrue, if◌then◌else◌}
-use Rattle.std.proofs.lemmas.Option.{slice_get_within, slice_get_past, slice_get-get_or, same_Some}
-use Rattle.type_arena.specs.Store.{Store, has}
+use Rattle.std.proofs.Common.{◌≡◌, ℕ, zero, suc, ◌<◌, ◌≤◌, ◌/◌, List, [], ◌∷◌, ◌++◌, length, get_or, refl, sym, ap, ◌∙◌, subst, arith}
+use Rattle.std.specs.Prelude.{Option, Some, None, Bool, true, false, slice_get, All, if◌then◌else◌}
+use Rattle.std.proofs.lemmas.Option.{slice_get-get_or, same_Some}
 use Rattle.type_arena.specs.declared.node.TypeRef.{TypeRef}
-use Rattle.local_types.specs.Maps.{is_even, by_number, no_ref, ref_by, ref_within, ref_of, types_in, places_in, TypesAreThere, PartsComeBefore, KeepsMaps}
-use Rattle.local_types.specs.declared.node.LocalMap.{LocalMap}
+use Rattle.local_types.specs.Maps.{is_even, by_number, no_ref, ref_by, ref_within, ref_of, types_in, PartsComeBefore, KeepsMaps}
 use Rattle.local_types.specs.declared.node.MapNode.{MapNode}
 use Rattle.local_types.specs.declared.node.MapNode.TheVariants.{All as Everywhere, Split}
 use Rattle.local_types.specs.declared.node.Parts.{Parts}

@@ -2,7 +2,6 @@
 use Rattle.std.specs.Prelude.{◌≡◌, ℕ, Bool, List, Some, slice_get, All, IsTrue}
 use Rattle.type_arena.specs.Arena.{home_of, below_of, store_of}
 use Rattle.type_arena.specs.Homes.{literal_homes}
-use Rattle.type_arena.specs.Meaning.{term_of}
 use Rattle.type_arena.specs.Store.{Keeps, node_at, has, refs_of}
 use Rattle.type_arena.specs.declared.arena.Arena.{Arena}
 use Rattle.type_arena.specs.declared.node.Node.{Node}

@@ -2,10 +2,8 @@
 use Rattle.std.specs.Prelude.{◌≡◌, ℕ, zero, suc, ◌<◌, ◌%◌, ◌/◌, Bool, ◌==◌, List, [], ◌∷◌, Option, Some, None, slice_get, All, IsTrue, if◌then◌else◌}
 use Rattle.type_arena.specs.Store.{Store, has}
 use Rattle.type_arena.specs.declared.node.TypeRef.{TypeRef}
-use Rattle.local_types.specs.declared.node.LocalMap.{LocalMap}
 use Rattle.local_types.specs.declared.node.MapNode.{MapNode}
 use Rattle.local_types.specs.declared.node.MapNode.TheVariants.{All as Everywhere, Split}
-use Rattle.local_types.specs.declared.node.Parts.{Parts}
 
 abbrev pub is_even : ℕ → Bool
 is_even n = n % 2 == 0

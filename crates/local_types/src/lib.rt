@@ -5,12 +5,17 @@ mod adding;
 mod changes;
 mod changing;
 mod combining;
+mod forgetting;
+mod joining;
 mod made;
+mod naming;
 mod node;
 mod reading;
+mod refining;
 mod single;
 mod types;
 
 pub use changes::{Change, How};
-pub use node::LocalMap;
+pub use node::{LocalMap, Point};
+pub use refining::Refined;
 pub use types::LocalTypes;

@@ -6,6 +6,13 @@ pub struct LocalMap {
     pub(crate) at: usize,
 }
 
+/// What is known of the locals at a point, and whether no run comes there.
+#[derive(Clone, Copy, Debug)]
+pub struct Point {
+    pub map: LocalMap,
+    pub dead: bool,
+}
+
 /// What a map has at 0, and the maps of the odd and of the even numbers: what it has at 2k+1 stands at k in the one, and
 /// what it has at 2k+2 at k in the other.
 #[derive(Clone, Copy, Debug)]

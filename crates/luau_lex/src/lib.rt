@@ -14,8 +14,6 @@ mod piece;
 mod reader;
 mod signs;
 mod strings;
-#[cfg(test)]
-mod tests;
 mod token;
 mod values;
 

@@ -189,6 +189,7 @@ fn faults_stand_where_a_module_cannot_go_on(rt: HostRuntime) -> Result<(), Fail>
         ("type x", "1:7", "unexpected end"),
         ("x = (1 --[[c]] ", "1:16", "unexpected end"),
         ("return `a{ b", "1:13", "unexpected end"),
+        ("f\n(", "2:1", "ambiguous call"),
         ("f\"a\"\n(b)", "2:1", "ambiguous call"),
         ("a:m --\n(1)", "2:1", "ambiguous call"),
         ("continue\n(1)", "2:1", "ambiguous call"),
@@ -230,6 +231,7 @@ fn expressions_stand_at_two_hundred_levels(rt: HostRuntime) -> Result<(), Fail> 
     let alloc = rt.alloc();
     for (before, open, inside, close, most, column) in [
         ("x = ", "(", "1", ")", 198, 204),
+        ("local x = ", "(", "1", ")", 198, 210),
         ("x = ", "{", "1", "}", 198, 204),
         ("x = ", "f(", "1", ")", 99, 205),
         ("x = ", "- ", "1", "", 198, 403),
@@ -267,5 +269,55 @@ fn statements_and_types_stand_at_two_hundred_levels(rt: HostRuntime) -> Result<(
         let right = nests(alloc, (before, open, inside, close), most, column)?;
         assert!(rt; right, "{before}{open}");
     }
+    Ok(())
+}
+
+#[test]
+fn a_token_stands_too_deep_whatever_follows(rt: HostRuntime) -> Result<(), Fail> {
+    let alloc = rt.alloc();
+    for (before, open, inside, line) in [
+        ("x = ", "(", "a", "1:204: refused: nesting"),
+        ("x = ", "(", "a b", "1:204: refused: nesting"),
+        ("x = ", "(", "a =", "1:204: refused: nesting"),
+        ("x = ", "(", "a :", "1:204: refused: nesting"),
+        ("type T = ", "{", "T", "1:209: refused: nesting"),
+        ("type T = ", "{", "T =", "1:209: refused: nesting"),
+        ("type T = ", "{", "T.a", "1:209: refused: nesting"),
+        ("type T = ", "{", "T:", "1:211: refused: unexpected end"),
+    ] {
+        let text = nested(alloc, (before, open, inside, ""), 199)?;
+        let line = format!(in alloc; "a.luau:{line}\n")?;
+        assert!(rt; refuses(alloc, text.as_str(), line.as_str())?, "{inside}");
+    }
+    Ok(())
+}
+
+#[test]
+fn each_part_of_a_module_begins_one(rt: HostRuntime) -> Result<(), Fail> {
+    let alloc = rt.alloc();
+    let mut text = String::new(alloc);
+    for token in [
+        "local", "s", "=", "{", "}", "export", "type", "S", "<", "T", ">", "=", "{", "items", ":",
+        "{", "[", "T", "]", ":", "boolean", "}", "}", "local", "a", ",", "b", "=", "0", ",", "1e3",
+        "@", "native", "local", "function", "g", "(", "by", ":", "number", ")", ":", "number",
+        "return", "a", "+", "by", "end", "function", "s", ".", "new", "(", "...", ")", "return",
+        "{", "x", "=", "1", ",", "[", "2", "]", "=", "3", "}", "end", "function", "s", ":", "add",
+        "(", "v", ")", "if", "v", "then", "return", "false", "elseif", "a", "then", "b", "=", "1",
+        "else", "self", ".", "n", "+=", "1", "end", "end", "for", "_", ",", "v", "in", "s", "do",
+        "if", "v", "==", "1", "then", "continue", "end", "a", "=", "g", "(", "1", ")", "end",
+        "for", "i", "=", "1", ",", "b", ",", "2", "do", "break", "end", "while", "a", ">", "0",
+        "do", "a", "-=", "1", "end", "repeat", "local", "done", "=", "a", "until", "done", "do",
+        "s", ".", "n", ",", "s", "[", "1", "]", "=", "b", ",", "if", "a", "then", "b", "else", "-",
+        "1", "end", "print", "(", "`x{", "a", "}y`", ")", ";", "return", "s", "::", "any",
+    ] {
+        text.push_str(token)?;
+        let column = text.len().saturating_add(1);
+        let line = format!(in alloc; "a.luau:1:{column}: refused: unexpected end\n")?;
+        let begins = refuses(alloc, text.as_str(), line.as_str())?
+            || is_module(alloc, text.as_str())?;
+        assert!(rt; begins, "{token:?}");
+        text.push_str(" ")?;
+    }
+    assert!(rt; is_module(alloc, text.as_str())?);
     Ok(())
 }

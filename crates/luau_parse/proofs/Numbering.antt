@@ -6,8 +6,10 @@ use Rattle.luau_tree.specs.declared.tree.Module.{Module}
 use Rattle.luau_grammar.specs.declared.error.ParseError.{ParseError}
 use Rattle.luau_grammar.specs.declared.error.ParseError.TheVariants.{NoMemory}
 use Rattle.tree_numbers.specs.Numbered.{numbered}
-use Rattle.luau_parse.specs.Parsed.{HasBareTree, HasTree}
-use Rattle.luau_parse.specs.Texts.{bare_tree_of, tree_of, with_numbers}
+use Rattle.module_reader.specs.Parsed.{HasBareTree}
+use Rattle.luau_parse.specs.Parsed.{HasTree}
+use Rattle.module_reader.specs.Texts.{bare_tree_of}
+use Rattle.luau_parse.specs.Texts.{tree_of, with_numbers}
 
 pub tree_is_numbered : (text : List ℕ) (bare : Module) (r : Result Module ParseError) → HasBareTree text (view_module bare)
     → IfOk r (λ m. view_module m ≡ numbered (view_module bare)) → IfOk r (λ m. HasTree text (view_module m))

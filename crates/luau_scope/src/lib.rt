@@ -17,8 +17,6 @@ pub mod refusals;
 mod resolver;
 mod scope;
 mod task;
-#[cfg(test)]
-mod tests;
 mod visit_exprs;
 mod visit_locals;
 mod visit_stats;

@@ -1,5 +1,5 @@
 -- What a parser does with the tokens of a prefix, whatever stands behind its last one.
-use Rattle.std.proofs.Common.{◌≡◌, ℕ, ◌+◌, Bool, true, false, List, [], ◌∷◌, ◌++◌, refl, sym, ap, subst, ◌⊎◌, inl, inr, arith, ap₂, true≢false, ◌&&◌, ◌||◌, leb-true, if◌then◌else◌}
+use Rattle.std.proofs.Common.{◌≡◌, ℕ, ◌+◌, Bool, true, false, List, [], ◌∷◌, ◌++◌, refl, sym, ◌∙◌, ap, subst, ◌⊎◌, inl, inr, arith, ap₂, true≢false, ◌&&◌, ◌||◌, leb-true, if◌then◌else◌}
 use Rattle.std.specs.Prelude.{Ok, Err, nat_le}
 use Rattle.luau_lex.specs.Tokens.{Tok}
 use Rattle.luau_grammar.specs.declared.error.ParseError.{ParseError}
@@ -7,7 +7,7 @@ use Rattle.luau_grammar.specs.declared.error.ParseError.TheVariants.{Lex, NoMemo
 use Rattle.luau_grammar.specs.declared.symbol.Symbol.{Symbol}
 use Rattle.luau_grammar.specs.declared.symbol.Symbol.TheVariants as s
 use Rattle.luau_grammar.specs.Symbols.{same, symbol_of}
-use Rattle.luau_grammar.specs.Places.{Place, symbol, sees, start_of}
+use Rattle.luau_grammar.specs.Places.{Place, first_symbol, symbol, sees, start_of}
 use Rattle.luau_grammar.specs.Reading.{Setting, Parser, ◌>>=◌, Outcome, and_then, start, last, level, set_level, span_from}
 use Rattle.grammar_faults.specs.Fronts.{BeginFrom}
 pub use Rattle.grammar_faults.proofs.Local.{IsLate, Far, Shorter, here, far_then, far_if, shorter_then, shorter_if, shorter_least}
@@ -29,16 +29,19 @@ NotAt [] _ = Unit {0}
 NotAt (u ∷ us) (Unexpected k) = k ≡ u.span.start → ⊥
 NotAt (u ∷ us) _ = Unit {0}
 
--- Two ways to go on behind a token, where they begin, and at which levels the token may stand.
+-- Two ways to go on behind a token, where they begin, and at which levels the token may stand: at all up to one, or at
+-- others, and then one of both goes on with a `.`.
 pub record Fork : Type 0 where
   pub bound : ℕ
   pub stands : ℕ → Bool
+  pub upto : Bool
   pub token : Tok
   pub one : List Tok
   pub other : List Tok
   pub one_late : BeginFrom bound one
   pub other_late : BeginFrom bound other
   pub one_next : NextLate one
+  pub dotted : upto ≡ false → (same (first_symbol one) s.Dot ≡ true) ⊎ (same (first_symbol other) s.Dot ≡ true)
 
 -- two places at the token or before it
 pub record SamePlace (w : Fork) (p q : Place) : Type 0 where
@@ -71,6 +74,10 @@ IsDeep (Err e) = Deep e
 abbrev pub BeyondOf : {A : Type 0} → List Tok → Outcome A → Type 0
 BeyondOf one (Ok x) = PastOf one x.1.ahead
 BeyondOf one (Err e) = NotAt one e
+
+-- what is behind the first of these, or stands too deep
+abbrev pub Aside : {A : Type 0} → List Tok → Outcome A → Type 0
+Aside one o = BeyondOf one o ⊎ IsDeep o
 
 -- Two outcomes are the same, or both are behind the token, or the first is that something stands too deep, or the second
 -- is, and the first is behind the token behind it.
@@ -201,6 +208,33 @@ gripped_then true bound f o h k = far_then bound f o h k
 gripped_then false bound f o (inl h) k = inl (far_then bound f o h k)
 gripped_then false bound f o (inr h) k = inr (deep_then f o h)
 
+-- what finds a name too deep, or takes it at another level
+abbrev pub Missed : {A : Type 0} → Bool → Bool → ℕ → Outcome A → Type 0
+Missed true upto bound o = IsDeep o
+Missed false true bound o = IsDeep o
+Missed false false bound o = Taken bound o
+
+pub missed_then : {A B : Type 0} (g upto : Bool) (bound : ℕ) (f : A → Parser B) (o : Outcome A) → Missed g upto bound o → ((x : A) (p : Place) → BeginFrom bound p.ahead → Far bound (f x p)) → Missed g upto bound (and_then o f)
+missed_then true upto bound f o h k = deep_then f o h
+missed_then false true bound f o h k = deep_then f o h
+missed_then false false bound f o h k = taken_then bound f o h k
+
+pub missed_if : {A : Type 0} (g upto : Bool) (bound : ℕ) (b : Bool) (o r : Outcome A) → Missed g upto bound o → Missed g upto bound r → Missed g upto bound (if b then o else r)
+missed_if g upto bound true o r h k = h
+missed_if g upto bound false o r h k = k
+
+pub deep_missed : {A : Type 0} (upto : Bool) (bound : ℕ) (o : Outcome A) → IsDeep o → Missed false upto bound o
+deep_missed true bound o h = h
+deep_missed false bound o h = inr h
+
+pub missed_taken : {A : Type 0} (upto : Bool) (bound : ℕ) (o : Outcome A) → Missed false upto bound o → Taken bound o
+missed_taken true bound o h = inr h
+missed_taken false bound o h = h
+
+pub aside_then : {A B : Type 0} (one : List Tok) (f : A → Parser B) (o : Outcome A) → Aside one o → ((x : A) (b : ℕ) (p : Place) → BeginFrom b p.ahead → Far b (f x p)) → Aside one (and_then o f)
+aside_then one f o (inl h) k = inl (beyond_then one f o h k)
+aside_then one f o (inr h) k = inr (deep_then f o h)
+
 pub gripped_if : {A : Type 0} (g : Bool) (bound : ℕ) (b : Bool) (o r : Outcome A) → Gripped g bound o → Gripped g bound r → Gripped g bound (if b then o else r)
 gripped_if g bound true o r h k = h
 gripped_if g bound false o r h k = k
@@ -214,18 +248,26 @@ pub record Peeks2 (w : Fork) (c : Place → Bool) : Type 0 where
   pub inside : (t : Tok) (us : List Tok) (l m : ℕ) → c (here t (us ++ w.token ∷ w.one) l m) ≡ c (here t (us ++ w.token ∷ w.other) l m)
   pub plain : same (symbol_of w.token) s.Name ≡ false → (l m : ℕ) → c (here w.token w.one l m) ≡ c (here w.token w.other l m)
 
--- a parser takes a name where it may stand at the level, and finds it too deep elsewhere
+-- A parser takes a name where it may stand at the level, and finds it too deep elsewhere, or takes it at another level.
 pub record Names {A : Type 0} (g : Bool) (w : Fork) (r : Parser A) : Type 0 where
   pub taken : same (symbol_of w.token) s.Name ≡ true → (ts : List Tok) (l m : ℕ) → BeginFrom w.bound ts → w.stands m ≡ true → Gripped g w.bound (r (here w.token ts l m))
-  pub deep : same (symbol_of w.token) s.Name ≡ true → (ts : List Tok) (l m : ℕ) → BeginFrom w.bound ts → w.stands m ≡ false → IsDeep (r (here w.token ts l m))
+  pub deep : same (symbol_of w.token) s.Name ≡ true → (ts : List Tok) (l m : ℕ) → BeginFrom w.bound ts → w.stands m ≡ false → Missed g w.upto w.bound (r (here w.token ts l m))
 
 -- at which levels a setting takes the token
 pub record Link (set : Setting) (w : Fork) : Type 0 where
   pub stands : (m : ℕ) → set.rules.may_stand w.token m ≡ w.stands m
-  pub level : (m : ℕ) → w.stands m ≡ nat_le m set.limit
+  pub level : w.upto ≡ true → (m : ℕ) → w.stands m ≡ nat_le m set.limit
+
+-- a test says no of a name before a `.`
+abbrev pub Silent : Fork → (Place → Bool) → Type 0
+Silent w c = same (symbol_of w.token) s.Name ≡ true → (ts : List Tok) (l m : ℕ) → same (first_symbol ts) s.Dot ≡ true → c (here w.token ts l m) ≡ false
+
+-- a name before a `.` stands too deep, or the `.` is taken
+pub record Dotted {A : Type 0} (w : Fork) (r : Parser A) : Type 0 where
+  pub aside : same (symbol_of w.token) s.Name ≡ true → same (first_symbol w.one) s.Dot ≡ true → (l m : ℕ) → Aside w.one (r (here w.token w.one l m))
 
 pub perhaps : {A : Type 0} {w : Fork} {r : Parser A} → Names true w r → Names false w r
-perhaps h = record { taken = λ e ts l m b s. inl (h.taken e ts l m b s); deep = h.deep }
+perhaps {w = w} {r = r} h = record { taken = λ e ts l m b s. inl (h.taken e ts l m b s); deep = λ e ts l m b s. deep_missed w.upto w.bound (r (here w.token ts l m)) (h.deep e ts l m b s) }
 
 module _ {w : Fork} where
   -- one parser, and then another
@@ -247,6 +289,7 @@ module _ {w : Fork} where
   -- where two tests differ at a name
   module _ {A : Type 0} (c : Place → Bool) (r v : Parser A) (h : Names true w r) (g : Names false w v) (e : same (symbol_of w.token) s.Name ≡ true) (l m : ℕ)
       (beyond : c (here w.token w.one l m) ≡ true → w.stands m ≡ true → BeyondOf w.one (r (here w.token w.one l m)) ⊎ Far w.bound (v (here w.token w.other l m)))
+      (aside : w.stands m ≡ false → w.upto ≡ false → c (here w.token w.other l m) ≡ true → Aside w.one (v (here w.token w.one l m)))
       (near_r : Near w (r (here w.token w.one l m)) (r (here w.token w.other l m))) (near_v : Near w (v (here w.token w.one l m)) (v (here w.token w.other l m))) where
     abbrev p : Place
     p = here w.token w.one l m
@@ -263,36 +306,47 @@ module _ {w : Fork} where
     other_taken (inl k) a = inr (inl (k, a))
     other_taken (inr k) a = inr (inr (inl k))
 
-    differs : (a b : Bool) → c p ≡ a → (z : Bool) → w.stands m ≡ z → Near w (if a then r p else v p) (if b then r q else v q)
-    differs true true d z k = near_r
-    differs false false d z k = near_v
-    differs true false d true k = first_taken (h.taken e w.one l m w.one_late k) (g.taken e w.other l m w.other_late k) (beyond d k)
-    differs true false d false k = inr (inr (inl (h.deep e w.one l m w.one_late k)))
-    differs false true d true k = other_taken (g.taken e w.one l m w.one_late k) (h.taken e w.other l m w.other_late k)
-    differs false true d false k = inr (inr (inl (g.deep e w.one l m w.one_late k)))
+    other_deep : IsDeep (r q) → Aside w.one (v p) → Near w (v p) (r q)
+    other_deep a (inl k) = inr (inr (inr (a, k)))
+    other_deep a (inr k) = inr (inr (inl k))
+
+    other_missed : IsDeep (r q) → (z : Bool) → w.upto ≡ z → Missed false z w.bound (v p) → (w.upto ≡ false → Aside w.one (v p)) → Near w (v p) (r q)
+    other_missed a true d k x = inr (inr (inl k))
+    other_missed a false d k x = other_deep a (x d)
+
+    differs : (a b : Bool) → c p ≡ a → c q ≡ b → (z : Bool) → w.stands m ≡ z → Near w (if a then r p else v p) (if b then r q else v q)
+    differs true true d i z k = near_r
+    differs false false d i z k = near_v
+    differs true false d i true k = first_taken (h.taken e w.one l m w.one_late k) (g.taken e w.other l m w.other_late k) (beyond d k)
+    differs true false d i false k = inr (inr (inl (h.deep e w.one l m w.one_late k)))
+    differs false true d i true k = other_taken (g.taken e w.one l m w.one_late k) (h.taken e w.other l m w.other_late k)
+    differs false true d i false k =
+        other_missed (h.deep e w.other l m w.other_late k) (w.upto) refl (g.deep e w.one l m w.one_late k) (λ u. aside k u i)
 
   edge : {A : Type 0} (c : Place → Bool) (r v : Parser A) → Peeks2 w c → Names true w r → Names false w v
       → (same (symbol_of w.token) s.Name ≡ true → (l m : ℕ) → c (here w.token w.one l m) ≡ true → w.stands m ≡ true → BeyondOf w.one (r (here w.token w.one l m)) ⊎ Far w.bound (v (here w.token w.other l m)))
+      → (same (symbol_of w.token) s.Name ≡ true → (l m : ℕ) → w.stands m ≡ false → w.upto ≡ false → c (here w.token w.other l m) ≡ true → Aside w.one (v (here w.token w.one l m)))
       → ((p q : Place) → SamePlace w p q → Near w (r p) (r q)) → ((p q : Place) → SamePlace w p q → Near w (v p) (v q))
       → (l m : ℕ) (b : Bool) → same (symbol_of w.token) s.Name ≡ b
       → Near w (if c (here w.token w.one l m) then r (here w.token w.one l m) else v (here w.token w.one l m)) (if c (here w.token w.other l m) then r (here w.token w.other l m) else v (here w.token w.other l m))
-  edge c r v t h g d near_r near_v l m false e =
+  edge c r v t h g d x near_r near_v l m false e =
       let p = here w.token w.one l m in
       let q = here w.token w.other l m in
       let i : SamePlace w p q = record { between = []; one = refl; other = refl; last = refl; level = refl } in
       near_if w (c p) (c q) (r p) (r q) (v p) (v q) (t.plain e l m) (λ _. near_r p q i) (λ _. near_v p q i)
-  edge c r v t h g d near_r near_v l m true e =
+  edge c r v t h g d x near_r near_v l m true e =
       let p = here w.token w.one l m in
       let q = here w.token w.other l m in
       let i : SamePlace w p q = record { between = []; one = refl; other = refl; last = refl; level = refl } in
-      differs c r v h g e l m (d e l m) (near_r p q i) (near_v p q i) (c p) (c q) refl (w.stands m) refl
+      differs c r v h g e l m (d e l m) (x e l m) (near_r p q i) (near_v p q i) (c p) (c q) refl refl (w.stands m) refl
 
   chosen : {A : Type 0} {k : ℕ} {r v : Parser A} (c : Place → Bool) → Peeks2 w c → Names true w r → Names false w v
       → (same (symbol_of w.token) s.Name ≡ true → (l m : ℕ) → c (here w.token w.one l m) ≡ true → w.stands m ≡ true → BeyondOf w.one (r (here w.token w.one l m)) ⊎ Far w.bound (v (here w.token w.other l m)))
+      → (same (symbol_of w.token) s.Name ≡ true → (l m : ℕ) → w.stands m ≡ false → w.upto ≡ false → c (here w.token w.other l m) ≡ true → Aside w.one (v (here w.token w.one l m)))
       → Forked w k r → Forked w k v → Forked w k (λ p. if c p then r p else v p)
-  chosen {k = k} {r = r} {v = v} c t h g d a b = record {
+  chosen {k = k} {r = r} {v = v} c t h g d x a b = record {
     near = same_places (λ p q. Near w (if c p then r p else v p) (if c q then r q else v q))
-        (λ l m. edge c r v t h g d a.near b.near l m (same (symbol_of w.token) s.Name) refl)
+        (λ l m. edge c r v t h g d x a.near b.near l m (same (symbol_of w.token) s.Name) refl)
         (λ u us l m.
         let p = here u (us ++ w.token ∷ w.one) l m in
         let q = here u (us ++ w.token ∷ w.other) l m in
@@ -302,15 +356,22 @@ module _ {w : Fork} where
     takes = λ p. shorter_if k p (c p) (r p) (v p) (a.takes p) (b.takes p);
   }
 
-  -- one of two, by such a test: where it says so, the first takes the second token too
+  aside_case : {A : Type 0} (c : Place → Bool) (v : Parser A) → Dotted w v → Silent w c
+      → same (symbol_of w.token) s.Name ≡ true → (l m : ℕ) → (same (first_symbol w.one) s.Dot ≡ true) ⊎ (same (first_symbol w.other) s.Dot ≡ true) → c (here w.token w.other l m) ≡ true
+      → Aside w.one (v (here w.token w.one l m))
+  aside_case c v h quiet e l m (inl d) k = h.aside e d l m
+  aside_case c v h quiet e l m (inr d) k = absurd (true≢false (sym k ∙ quiet e w.other l m d))
+
+  -- One of two, by such a test: where it says so, the first takes the second token too. Before a `.` it says no.
   pub choose2 : {A : Type 0} {k : ℕ} {r v : Parser A} (c : Place → Bool) → Peeks2 w c → Names true w r → Names false w v
       → (same (symbol_of w.token) s.Name ≡ true → (l m : ℕ) → c (here w.token w.one l m) ≡ true → w.stands m ≡ true → BeyondOf w.one (r (here w.token w.one l m)))
+      → Silent w c → Dotted w v
       → Forked w k r → Forked w k v → Forked w k (λ p. if c p then r p else v p)
-  choose2 c t h g d a b = chosen c t h g (λ e l m i j. inl (d e l m i j)) a b
+  choose2 {v = v} c t h g d quiet dot a b = chosen c t h g (λ e l m i j. inl (d e l m i j)) (λ e l m k u i. aside_case c v dot quiet e l m (w.dotted u) i) a b
 
   -- both take the name alike
   pub either_name : {A : Type 0} {k : ℕ} {r v : Parser A} (c : Place → Bool) → Peeks2 w c → Names true w r → Names true w v → Forked w k r → Forked w k v → Forked w k (λ p. if c p then r p else v p)
-  either_name c t h g a b = chosen c t h (perhaps g) (λ e l m i j. inr (g.taken e w.other l m w.other_late j)) a b
+  either_name c t h g a b = chosen c t h (perhaps g) (λ e l m i j. inr (g.taken e w.other l m w.other_late j)) (λ e l m k u i. inr (g.deep e w.one l m w.one_late k)) a b
 
   pub least : {A : Type 0} {n : ℕ} {r : Parser A} (k : ℕ) → nat_le k n ≡ true → Forked w n r → Forked w k r
   least {n = n} {r = r} k e h = record { near = h.near; one = h.one; takes = λ p. shorter_least k n p (r p) (leb-true k n e) (h.takes p) }

@@ -1,9 +1,11 @@
 -- Tests of types, and lists in braces, that depend on what they take.
 use Rattle.std.proofs.Common.{◌≡◌, ℕ, length, Bool, true, false, true≢false, not, ◌||◌, ◌&&◌, sym, ◌∙◌, subst, if◌then◌else◌, List, [], ◌∷◌, ◌++◌, refl, codes, is_some}
 use Rattle.std.specs.Prelude.{Ok, Err}
+use Rattle.luau_lex.specs.Tokens.{Tok}
+use Rattle.luau_grammar.specs.declared.symbol.Symbol.{Symbol}
 use Rattle.luau_grammar.specs.declared.symbol.Symbol.TheVariants as s
 use Rattle.luau_grammar.specs.Symbols.{same, symbol_of}
-use Rattle.luau_grammar.specs.Places.{symbol, sees, sees_behind}
+use Rattle.luau_grammar.specs.Places.{first_symbol, symbol, symbol_behind, sees, sees_behind, sees_word}
 use Rattle.luau_grammar.specs.Phrases.{Listed, in_parens}
 use Rattle.luau_grammar.specs.Lists.{sees_separator}
 use Rattle.luau_grammar.specs.Types.{sees_access, begins_property, sees_typeof, begins_tail, is_type_front, begins_named, goes_on}
@@ -11,8 +13,8 @@ use Rattle.luau_grammar.specs.Reading as read
 use Rattle.luau_grammar.specs.Reading.{Setting, Parser, Outcome, Readers, ◌>>=◌, ◌>>◌, and_then, pure, start}
 use Rattle.luau_grammar.specs.ReadTypes as code
 use Rattle.luau_grammar.specs.ReadTypes.{Members, Braced, goes_braced, goes_members, goes_marks, goes_options}
-use Rattle.other_ends.proofs.Fork.{Fork, Forked, Peeks, Peeks2, Names, IsDeep, Far, BeyondOf, here, gripped_then, deep_then, beyond_then, both, choose, least, done, peeks_sees, peeks_const, peeks_of, peeks_and, peeks_or}
-use Rattle.other_ends.proofs.ForkNames.{two_of, two_or, two_name, two_word, behind_sees, behind_or, only_name, names_then}
+use Rattle.other_ends.proofs.Fork.{Fork, Forked, Peeks, Peeks2, Names, Silent, IsDeep, Far, BeyondOf, here, gripped_then, deep_then, beyond_then, both, choose, least, done, peeks_sees, peeks_const, peeks_of, peeks_and, peeks_or}
+use Rattle.other_ends.proofs.ForkNames.{two_of, two_or, two_name, two_word, behind_sees, behind_or, only_name, no_other, second_no, neither, names_then}
 use Rattle.other_ends.proofs.ForkTokens.{any}
 use Rattle.other_ends.proofs.ForkSteps.{steps, steps_far}
 
@@ -71,6 +73,50 @@ module _ {w : Fork} where
 
   pub peeks_members : (found : Members) → Peeks w (goes_members found)
   peeks_members found = peeks_and (peeks_const (not found.tailed)) (peeks_sees s.Comma)
+
+-- ---- a name before a `.`
+
+module _ (w : Fork) where
+  behind_no : (x : Symbol) → same s.Dot x ≡ false → (ts : List Tok) (l m : ℕ) → same (first_symbol ts) s.Dot ≡ true → sees_behind x (here w.token ts l m) ≡ false
+  unfolding sees_behind symbol_behind
+  behind_no x n ts l m d = no_other (first_symbol ts) s.Dot x d n
+
+  pub silent_name : (x : Symbol) → same s.Dot x ≡ false → Silent w (λ p. sees s.Name p && sees_behind x p)
+  silent_name x n e ts l m d = second_no (sees s.Name (here w.token ts l m)) (sees_behind x (here w.token ts l m)) (behind_no x n ts l m d)
+
+  pub silent_named : Silent w begins_named
+  unfolding same
+  silent_named = silent_name s.Colon refl
+
+  pub silent_tail : Silent w begins_tail
+  unfolding sees symbol same
+  silent_tail e ts l m d =
+      neither (same (symbol_of w.token) s.Dots) (same (symbol_of w.token) s.Name && sees_behind s.Dots (here w.token ts l m)) (only_name (symbol_of w.token) s.Dots e refl) (silent_name s.Dots refl e ts l m d)
+
+  silent_access : (word : List ℕ) → Silent w (sees_access word)
+  unfolding same
+  silent_access word e ts l m d =
+      second_no (sees_word word (here w.token ts l m)) (sees_behind s.Name (here w.token ts l m) || sees_behind s.LeftBracket (here w.token ts l m))
+      (neither (sees_behind s.Name (here w.token ts l m)) (sees_behind s.LeftBracket (here w.token ts l m)) (behind_no s.Name refl ts l m d) (behind_no s.LeftBracket refl ts l m d))
+
+  silent_property : Silent w begins_property
+  unfolding sees symbol same
+  silent_property e ts l m d =
+      let p = here w.token ts l m in
+      let bracket = same (symbol_of w.token) s.LeftBracket in
+      let colon = same (symbol_of w.token) s.Name && sees_behind s.Colon p in
+      neither (bracket || colon) (sees_access (codes "read") p || sees_access (codes "write") p)
+      (neither bracket colon (only_name (symbol_of w.token) s.LeftBracket e refl) (silent_name s.Colon refl e ts l m d))
+      (neither (sees_access (codes "read") p) (sees_access (codes "write") p) (silent_access (codes "read") e ts l m d) (silent_access (codes "write") e ts l m d))
+
+  pub silent_brace : Silent w (λ p. sees s.RightBrace p || begins_property p)
+  unfolding sees symbol same
+  silent_brace e ts l m d =
+      neither (same (symbol_of w.token) s.RightBrace) (begins_property (here w.token ts l m)) (only_name (symbol_of w.token) s.RightBrace e refl) (silent_property e ts l m d)
+
+  pub silent_typeof : Silent w sees_typeof
+  unfolding same
+  silent_typeof e ts l m d = second_no (sees_word (codes "typeof") (here w.token ts l m)) (sees_behind s.LeftParen (here w.token ts l m)) (behind_no s.LeftParen refl ts l m d)
 
 module _ (set : Setting) {w : Fork} where
   pub separator_forked : Forked w 0 (code.separator set)

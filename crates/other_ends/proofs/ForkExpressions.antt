@@ -1,5 +1,7 @@
 -- The parsers of expressions and function bodies depend on what they take.
-use Rattle.std.proofs.Common.{ℕ, ◌||◌, sym, subst, if◌then◌else◌, true, false, List, [], ◌∷◌, ◌++◌, refl, Option, None, is_some, ◌≡◌}
+use Rattle.std.proofs.Common.{ℕ, ◌||◌, length, true≢false, sym, subst, if◌then◌else◌, true, false, List, [], ◌∷◌, ◌++◌, refl, Option, None, is_some, ◌≡◌}
+use Rattle.std.specs.Prelude.{Ok, Err}
+use Rattle.luau_lex.specs.Tokens.{Tok}
 use Rattle.luau_tree.specs.declared.position.Span.{Span}
 use Rattle.luau_tree.specs.Tree.{Expr, Exprs, ExprKind, Item}
 use Rattle.luau_tree.specs.Tree as tree
@@ -10,15 +12,15 @@ use Rattle.luau_grammar.specs.Symbols.{same, symbol_of}
 use Rattle.luau_grammar.specs.Places.{first_symbol, symbol, symbol_behind, sees, sees_behind, start_of}
 use Rattle.luau_grammar.specs.Expressions.{begins_suffix, begins_field, sees_pack}
 use Rattle.luau_grammar.specs.Reading as read
-use Rattle.luau_grammar.specs.Reading.{Setting, Parser, Readers, ◌>>=◌, pure, start}
+use Rattle.luau_grammar.specs.Reading.{Setting, Parser, Outcome, Readers, ◌>>=◌, and_then, pure, start}
 use Rattle.luau_grammar.specs.ReadPhrases as phrases
 use Rattle.luau_grammar.specs.ReadExpressions as code
 use Rattle.luau_grammar.specs.ReadExpressions.{Parameters, Interpolated, goes_parameters, no_parameters, is_open, with_self}
-use Rattle.other_ends.proofs.Fork.{Fork, Forked, Peeks, Peeks2, Names, Far, IsDeep, BeyondOf, here, both, choose, choose2, least, done, at_start, at_here, at_span, to_level, peeks_sees, peeks_const, peeks_and, peeks_or, peeks_symbol, peeks_start}
+use Rattle.other_ends.proofs.Fork.{Fork, Forked, Peeks, Peeks2, Names, Silent, Dotted, Aside, Far, IsDeep, BeyondOf, here, beyond_then, both, choose, choose2, least, done, at_start, at_here, at_span, to_level, peeks_sees, peeks_const, peeks_and, peeks_or, peeks_symbol, peeks_start}
 use Rattle.other_ends.proofs.ForkCases.{by_symbol}
-use Rattle.other_ends.proofs.ForkNames.{two_name, behind_sees, name_names, name_beyond, names_then, names_start, names_else}
+use Rattle.other_ends.proofs.ForkNames.{two_name, behind_sees, name_names, name_beyond, expect_beyond, at_rest, only_name, names_then, names_start, names_else, dotted_then, dotted_start, name_aside}
 use Rattle.other_ends.proofs.ForkTokens.{refuses, any, token, a_name, a_string, raises, opens}
-use Rattle.other_ends.proofs.ForkSteps.{steps, in_list}
+use Rattle.other_ends.proofs.ForkSteps.{steps, steps_far, in_list}
 use Rattle.other_ends.proofs.ForkTypes as types
 use Rattle.other_ends.proofs.ForkTypes.{ForkReaders}
 
@@ -40,6 +42,15 @@ module _ {w : Fork} where
   peeks_suffix =
       peeks_or (peeks_or (peeks_sees s.Dot) (peeks_or (peeks_sees s.LeftBracket) (peeks_sees s.Colon)))
       (peeks_or (peeks_sees s.LeftParen) (peeks_or (peeks_sees s.LeftBrace) (peeks_sees s.Text)))
+
+module _ (w : Fork) where
+  silent_pack : Silent w sees_pack
+  unfolding same
+  silent_pack = types.silent_name w s.Dots refl
+
+  silent_field : Silent w begins_field
+  unfolding same
+  silent_field = types.silent_name w s.Assign refl
 
 module _ (set : Setting) (inner : Readers) (w : Fork) (held : ForkReaders set w inner) where
   pub exp_forked : Forked w 1 (phrases.expression set inner)
@@ -73,7 +84,7 @@ module _ (set : Setting) (inner : Readers) (w : Fork) (held : ForkReaders set w 
   pub var_type_forked : Forked w 1 (code.var_type set inner)
   unfolding code.var_type
   var_type_forked =
-      choose2 sees_pack two_pack (types.generic_pack_names set inner w held) (types.typ_names set inner w held) (types.generic_pack_beyond set inner w held) (types.generic_pack_forked set inner w held) typ_forked
+      choose2 sees_pack two_pack (types.generic_pack_names set inner w held) (types.typ_names set inner w held) (types.generic_pack_beyond set inner w held) (silent_pack w) (types.typ_before_dot set inner w held) (types.generic_pack_forked set inner w held) typ_forked
 
   pub var_annotation_forked : Forked w 0 (code.var_annotation set inner)
   unfolding code.var_annotation
@@ -150,10 +161,13 @@ module _ (set : Setting) (inner : Readers) (w : Fork) (held : ForkReaders set w 
   plain_names : Names false w plain
   plain_names = names_then (types.exp_names set inner w held) (λ value. done (tree.Plain value))
 
+  plain_before_dot : Dotted w plain
+  plain_before_dot = dotted_then (types.exp_before_dot set inner w held) (λ value. done (tree.Plain value))
+
   pub item_forked : Forked w 1 (code.item set inner)
   unfolding code.item
   item_forked =
-      choose (peeks_sees s.LeftBracket) keyed_forked (choose2 begins_field two_field field_names plain_names field_beyond field_forked (least 1 refl (both exp_forked (λ value. done (tree.Plain value)))))
+      choose (peeks_sees s.LeftBracket) keyed_forked (choose2 begins_field two_field field_names plain_names field_beyond (silent_field w) plain_before_dot field_forked (least 1 refl (both exp_forked (λ value. done (tree.Plain value)))))
 
   pub fields_forked : Forked w 0 (code.fields set inner)
   unfolding code.fields
@@ -370,3 +384,70 @@ module _ (set : Setting) (inner : Readers) (w : Fork) (held : ForkReaders set w 
   pub assertion_names : Names true w (code.assertion set inner)
   unfolding code.assertion
   assertion_names = names_start (λ from. names_then simple_names (λ x. asserted_forked from x))
+
+  -- ---- a name before a `.`
+
+  abbrev behind_dot : ℕ → Expr → Parser Expr
+  behind_dot from base = read.raise set >>= (λ _. read.name set >>= (λ name. read.span_from from >>= (λ span. pure (tree.the_expr 0 span (tree.Index base name)))))
+
+  behind_dot_forked : (from : ℕ) (base : Expr) → Forked w 1 (behind_dot from base)
+  behind_dot_forked from base = least 1 refl (both (raises set) (λ _. both (a_name set) (λ name. both (at_span from) (λ span. done (tree.the_expr 0 span (tree.Index base name))))))
+
+  dot_beyond : (from : ℕ) (base : Expr) (l m : ℕ) → same (first_symbol w.one) s.Dot ≡ true → BeyondOf w.one (code.suffix set inner from base (at_rest w.one l m))
+  unfolding code.suffix code.index sees symbol same
+  dot_beyond from base l m d =
+      let p = at_rest w.one l m in
+      subst (λ c. BeyondOf w.one (if c then (read.expect set s.Dot >>= (λ _. behind_dot from base)) p
+      else (if same (first_symbol w.one) s.LeftBracket then code.at set inner from base p else (if same (first_symbol w.one) s.Colon then code.method set inner from base p else code.call set inner from base p)))) (sym d)
+      (beyond_then w.one (λ _. behind_dot from base) (read.expect set s.Dot p) (expect_beyond set s.Dot w.one l m w.one_next refl d) (λ _. (behind_dot_forked from base).one))
+
+  abbrev suffixes : ℕ → Expr → Parser Expr
+  suffixes from first = read.repeat set (λ _ p. begins_suffix p) (code.suffix set inner from) first
+
+  suffixed : (from : ℕ) (base : Expr) (ts : List Tok) → ts ≡ w.one → (l m : ℕ) → same (first_symbol ts) s.Dot ≡ true → BeyondOf w.one (suffixes from base (at_rest ts l m))
+  unfolding read.repeats sees symbol same
+  suffixed from base [] q l m d = absurd (true≢false (sym d))
+  suffixed from base (u ∷ us) q l m d =
+      let p = at_rest (u ∷ us) l m in
+      subst (λ c. BeyondOf w.one (if (c || (same (symbol_of u) s.LeftBracket || same (symbol_of u) s.Colon)) || (same (symbol_of u) s.LeftParen || (same (symbol_of u) s.LeftBrace || same (symbol_of u) s.Text))
+      then and_then (code.suffix set inner from base p) (read.repeats set (λ _ p. begins_suffix p) (code.suffix set inner from) (length us)) else Ok (base, p))) (sym d)
+      (beyond_then w.one (read.repeats set (λ _ p. begins_suffix p) (code.suffix set inner from) (length us)) (code.suffix set inner from base p)
+      (subst (λ z. BeyondOf w.one (code.suffix set inner from base (at_rest z l m))) (sym q) (dot_beyond from base l m (subst (λ z. same (first_symbol z) s.Dot ≡ true) q d)))
+      (λ x z a b. steps_far set w (λ _ p. begins_suffix p) (code.suffix set inner from) (suffix_forked from) (length us) x z a b))
+
+  abbrev spelled : ℕ → List ℕ → Parser Expr
+  spelled from name = read.span_from from >>= (λ span. pure (tree.the_expr 0 span (tree.NameExpr name)))
+
+  then_suffixes : (from : ℕ) (o : Outcome (List ℕ)) → and_then (and_then o (spelled from)) (suffixes from) ≡ and_then o (λ n. spelled from n >>= suffixes from)
+  then_suffixes from (Ok x) = refl
+  then_suffixes from (Err e) = refl
+
+  named_before_dot : same (symbol_of w.token) s.Name ≡ true → same (first_symbol w.one) s.Dot ≡ true → (l m : ℕ)
+      → Aside w.one ((code.name_expression set inner >>= suffixes (start_of (here w.token w.one l m))) (here w.token w.one l m))
+  unfolding code.name_expression
+  named_before_dot e d l m =
+      let from = start_of (here w.token w.one l m) in
+      subst (λ o. Aside w.one o) (sym (then_suffixes from (read.name set (here w.token w.one l m))))
+      (name_aside set held.link (λ n. spelled from n >>= suffixes from) e l m
+      (suffixed from (tree.the_expr 0 (record { start = from; end = w.token.span.end }) (tree.NameExpr w.token.bytes)) w.one refl w.token.span.end m d) (w.stands m) refl)
+
+  prefix_before_dot : Dotted w (code.prefix set inner)
+  unfolding code.prefix code.primary sees symbol same
+  prefix_before_dot = record {
+    aside = λ e d l m.
+        let p = here w.token w.one l m in
+        subst (λ c. Aside w.one (and_then (if c then code.paren set inner p else code.name_expression set inner p) (suffixes (start_of p))))
+        (sym (only_name (symbol_of w.token) s.LeftParen e refl)) (named_before_dot e d l m);
+  }
+
+  simple_before_dot : Dotted w (code.simple set inner)
+  unfolding code.simple sees symbol
+  simple_before_dot = record {
+    aside = λ e d l m.
+        let p = here w.token w.one l m in
+        subst (λ c. Aside w.one (if c || same (symbol_of w.token) s.LeftParen then code.prefix set inner p else code.form set inner p)) (sym e) (prefix_before_dot.aside e d l m);
+  }
+
+  pub assertion_before_dot : Dotted w (code.assertion set inner)
+  unfolding code.assertion
+  assertion_before_dot = dotted_start (λ from. dotted_then simple_before_dot (λ x. asserted_forked from x))

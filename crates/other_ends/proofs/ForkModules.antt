@@ -1,5 +1,5 @@
 -- The parser of a module depends on what it takes, so a fault at a token is the fault of each list with the same prefix.
-use Rattle.std.proofs.Common.{◌≡◌, ℕ, zero, suc, ◌+◌, ◌≤◌, ◌<◌, List, [], ◌∷◌, ◌++◌, refl, sym, ◌∙◌, subst, inl, inr, Ok, Err, arith, leb-true, false, append_assoc}
+use Rattle.std.proofs.Common.{◌≡◌, ℕ, zero, suc, ◌+◌, ◌≤◌, ◌<◌, List, [], ◌∷◌, ◌++◌, refl, sym, ◌∙◌, subst, inl, inr, Ok, Err, arith, leb-true, true, false, true≢false, append_assoc}
 use Rattle.std.specs.Prelude.{nat_le}
 use Rattle.luau_tree.specs.Tree.{Block}
 use Rattle.luau_tree.specs.Tree as tree
@@ -18,16 +18,20 @@ use Rattle.luau_grammar.proofs.Families.{bare_is_read}
 use Rattle.grammar_faults.specs.Fronts.{BeginFrom, StandsBefore}
 use Rattle.grammar_faults.proofs.LocalModules.{a_fault_stands}
 use Rattle.other_ends.specs.Settings.{IsByLevels}
-use Rattle.other_ends.proofs.Fork.{Fork, NextLate, NotAt, Near, Far, Forked, Names, Link, perhaps, IsLate, Deep, both, choose, least, done, peeks_sees, peeks_symbol, peeks_of}
+use Rattle.other_ends.proofs.Fork.{Fork, NextLate, NotAt, Near, Far, Forked, Names, Dotted, Link, perhaps, deep_missed, here, IsLate, Deep, both, choose, least, done, peeks_sees, peeks_symbol, peeks_of}
 use Rattle.other_ends.proofs.ForkTokens.{refuses, refuses_deep}
-use Rattle.other_ends.proofs.ForkTypes.{ForkReaders, block_forked, type_inside_forked, type_begun_forked, type_inside_names}
-use Rattle.other_ends.proofs.ForkOperators.{expression_inside_forked, expression_inside_names}
+use Rattle.other_ends.proofs.ForkTypes.{ForkReaders, block_forked, type_inside_forked, type_begun_forked, type_inside_names, type_inside_before_dot}
+use Rattle.other_ends.proofs.ForkOperators.{expression_inside_forked, expression_inside_names, expression_inside_before_dot}
 use Rattle.other_ends.proofs.ForkStatements.{block_inside_forked}
 
 module _ (set : Setting) (w : Fork) (link : Link set w) where
   deep_names : {A : Type 0} → Names {A = A} false w (λ p. Err (read.deep_refusal set p))
   unfolding read.deep_refusal
-  deep_names = record { taken = λ e ts l m b z. inr tt; deep = λ e ts l m b z. tt }
+  deep_names {A = A} = record { taken = λ e ts l m b z. inr tt; deep = λ e ts l m b z. deep_missed {A = A} w.upto w.bound (Err (read.deep_refusal set (here w.token ts l m))) tt }
+
+  deep_dotted : {A : Type 0} → Dotted {A = A} w (λ p. Err (read.deep_refusal set p))
+  unfolding read.deep_refusal
+  deep_dotted = record { aside = λ e d l m. inr tt }
 
   deep_forked : ForkReaders set w (too_deep set)
   unfolding too_deep
@@ -39,6 +43,8 @@ module _ (set : Setting) (w : Fork) (link : Link set w) where
     block = choose (peeks_of statements.begins peeks_symbol) (refuses_deep set 0) (done tree.no_stats);
     exp_named = deep_names;
     typ_named = deep_names;
+    exp_dotted = deep_dotted;
+    typ_dotted = deep_dotted;
   }
 
   readers_forked : (deep : ℕ) → ForkReaders set w (readers set deep)
@@ -52,6 +58,8 @@ module _ (set : Setting) (w : Fork) (link : Link set w) where
     block = block_inside_forked set (readers set deep) w (readers_forked deep);
     exp_named = perhaps (expression_inside_names set (readers set deep) w (readers_forked deep));
     typ_named = perhaps (type_inside_names set (readers set deep) w (readers_forked deep));
+    exp_dotted = expression_inside_before_dot set (readers set deep) w (readers_forked deep);
+    typ_dotted = type_inside_before_dot set (readers set deep) w (readers_forked deep);
   }
 
   pub module_forked : (deep : ℕ) → Forked w 0 (module_with set deep)
@@ -83,16 +91,23 @@ passed_too w (Err d) r e (inr (inl n)) h late flat there = n.1
 passed_too w (Err d) r e (inr (inr (inl n))) h late flat there = absurd (flat (subst Deep (same_error (Err d) d e refl h) n))
 passed_too w (Err d) r e (inr (inr (inr n))) h late flat there = absurd (there (subst (λ z. NotAt w.one z) (same_error (Err d) d e refl h) n.1))
 
+-- What is passed in the one list is passed in the other, where the fault is not that something stands too deep, and not
+-- at the token behind.
+pub passed_alike : (set : Setting) (w : Fork) → Link set w → (deep : ℕ) (front : List Tok) (e : ParseError) → IsLate w.bound e → (Deep e → ⊥) → (NotAt w.one e → ⊥)
+    → module_with set deep (before (front ++ w.token ∷ w.one)) ≡ Err e → Far w.bound (module_with set deep (before (front ++ w.token ∷ w.other)))
+passed_alike set w link deep front e late flat there h =
+    passed_too w (module_with set deep (before (front ++ w.token ∷ w.one))) (module_with set deep (before (front ++ w.token ∷ w.other))) e (both_lists set w link deep front) h late flat there
+
 late_token : (t : Tok) → t.span.start + 1 ≤ t.span.start → ⊥
 late_token t h = absurd (omega arith)
 
 module _ (set : Setting) (by_levels : IsByLevels set) (deep : ℕ) (enough : set.limit + 2 ≤ deep) (t : Tok) (front one other : List Tok)
     (one_late : BeginFrom (t.span.start + 1) one) (other_late : BeginFrom (t.span.start + 1) other) (one_next : NextLate one) where
   abbrev fork : Fork
-  fork = record { bound = t.span.start + 1; stands = λ m. nat_le m set.limit; token = t; one = one; other = other; one_late = one_late; other_late = other_late; one_next = one_next }
+  fork = record { bound = t.span.start + 1; stands = λ m. nat_le m set.limit; upto = true; token = t; one = one; other = other; one_late = one_late; other_late = other_late; one_next = one_next; dotted = λ e. absurd (true≢false e) }
 
   abbrev link : Link set fork
-  link = record { stands = λ m. by_levels t m; level = λ m. refl }
+  link = record { stands = λ m. by_levels t m; level = λ _ m. refl }
 
   bounded : Bounded set
   bounded u m h = leb-true m set.limit (sym (by_levels u m) ∙ h)

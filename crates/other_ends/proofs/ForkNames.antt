@@ -1,5 +1,5 @@
 -- Tests that look at two tokens, and what parsers do with a name.
-use Rattle.std.proofs.Common.{◌≡◌, ℕ, ◌+◌, Bool, true, false, true≢false, ◌&&◌, ◌||◌, List, [], ◌∷◌, ◌++◌, refl, sym, ◌∙◌, ap, ap₂, subst, bytes_eq, if◌then◌else◌}
+use Rattle.std.proofs.Common.{◌≡◌, ℕ, ◌+◌, Bool, true, false, true≢false, ◌&&◌, ◌||◌, List, [], ◌∷◌, ◌++◌, refl, sym, ◌∙◌, ap, ap₂, subst, inl, inr, bytes_eq, if◌then◌else◌}
 use Rattle.std.specs.Prelude.{Ok, Err}
 use denote.Enum.Bare.{same_true}
 use Rattle.luau_lex.specs.Tokens.{Tok}
@@ -13,7 +13,7 @@ use Rattle.luau_grammar.specs.Statements.{second_bytes}
 use Rattle.luau_grammar.specs.Reading as read
 use Rattle.luau_grammar.specs.Reading.{Setting, Parser, Outcome, ◌>>=◌, and_then, pure, start, next, expect}
 use Rattle.grammar_faults.specs.Fronts.{BeginFrom}
-use Rattle.other_ends.proofs.Fork.{Fork, NextLate, Near, Far, Forked, Peeks, Peeks2, Names, Link, Gripped, IsDeep, BeyondOf, Shorter, here, deep_then, deep_if, gripped_then, gripped_if, beyond_then, done}
+use Rattle.other_ends.proofs.Fork.{Fork, NextLate, Near, Far, Forked, Peeks, Peeks2, Names, Link, Silent, Dotted, Gripped, Missed, Aside, IsDeep, BeyondOf, Shorter, here, gripped_then, gripped_if, missed_then, missed_if, beyond_then, aside_then, done}
 
 -- ---- tests
 
@@ -121,7 +121,7 @@ module _ {w : Fork} where
   pub names_then : {A B : Type 0} {g : Bool} {k : ℕ} {r : Parser A} {f : A → Parser B} → Names g w r → ((x : A) → Forked w k (f x)) → Names g w (r >>= f)
   names_then {g = g} {r = r} {f = f} h n = record {
     taken = λ e ts l m b z. gripped_then g w.bound f (r (here w.token ts l m)) (h.taken e ts l m b z) (λ x. (n x).one w.bound);
-    deep = λ e ts l m b z. deep_then f (r (here w.token ts l m)) (h.deep e ts l m b z);
+    deep = λ e ts l m b z. missed_then g w.upto w.bound f (r (here w.token ts l m)) (h.deep e ts l m b z) (λ x. (n x).one w.bound);
   }
 
   pub names_start : {A : Type 0} {g : Bool} {f : ℕ → Parser A} → ((n : ℕ) → Names g w (f n)) → Names g w (start >>= f)
@@ -138,7 +138,7 @@ module _ {w : Fork} where
         gripped_if g w.bound (c p) (r p) (v p) (h.taken e ts l m b z) (k.taken e ts l m b z);
     deep = λ e ts l m b z.
         let p = here w.token ts l m in
-        deep_if (c p) (r p) (v p) (h.deep e ts l m b z) (k.deep e ts l m b z);
+        missed_if g w.upto w.bound (c p) (r p) (v p) (h.deep e ts l m b z) (k.deep e ts l m b z);
   }
 
   -- a symbol that is no name
@@ -150,7 +150,7 @@ module _ {w : Fork} where
         subst (λ c. Gripped g w.bound (if c then r p else v p)) (sym (only_name (symbol_of w.token) x e n)) (k.taken e ts l m b z);
     deep = λ e ts l m b z.
         let p = here w.token ts l m in
-        subst (λ c. IsDeep (if c then r p else v p)) (sym (only_name (symbol_of w.token) x e n)) (k.deep e ts l m b z);
+        subst (λ c. Missed g w.upto w.bound (if c then r p else v p)) (sym (only_name (symbol_of w.token) x e n)) (k.deep e ts l m b z);
   }
 
 module _ (set : Setting) {w : Fork} (link : Link set w) where
@@ -171,7 +171,7 @@ second set x u us l m h e =
     subst (λ b. BeyondOf {A = Tok} (u ∷ us) (if b then (if set.rules.may_stand u m then Ok (u, behind u us m) else Err (Nesting u.span.start)) else Err (read.refusal set (here u us l m)))) (sym e)
     (second_case u us m h (set.rules.may_stand u m))
 
-abbrev at_rest : List Tok → ℕ → ℕ → Place
+abbrev pub at_rest : List Tok → ℕ → ℕ → Place
 at_rest ts l m = record { ahead = ts; last = l; level = m }
 
 pub expect_beyond : (set : Setting) (x : Symbol) (one : List Tok) (l m : ℕ) → NextLate one → same s.Stop x ≡ false → same (first_symbol one) x ≡ true → BeyondOf one (expect set x (at_rest one l m))
@@ -190,6 +190,56 @@ module _ (set : Setting) {w : Fork} (link : Link set w) where
   -- any token, and a parser that takes the one behind it
   pub next_beyond : {B : Type 0} (g : Tok → Parser B) (l m : ℕ) → w.stands m ≡ true → BeyondOf w.one (g w.token (at_rest w.one w.token.span.end m)) → BeyondOf w.one ((next set >>= g) (here w.token w.one l m))
   next_beyond g l m z h = subst (λ o. BeyondOf w.one (and_then o g)) (sym (next_case set w link w.one l m true z)) h
+
+-- ---- a name before a `.`
+
+-- the symbol that comes next is no other
+pub no_other : (x y z : Symbol) → same x y ≡ true → same y z ≡ false → same x z ≡ false
+unfolding same
+no_other x y z h k = subst (λ v. same v z ≡ false) (sym (same_true the_type tt x y h)) k
+
+pub second_no : (a b : Bool) → b ≡ false → (a && b) ≡ false
+second_no true b h = h
+second_no false b h = refl
+
+pub neither : (a b : Bool) → a ≡ false → b ≡ false → (a || b) ≡ false
+neither true b h k = h
+neither false b h k = k
+
+module _ {w : Fork} where
+  pub dotted_then : {A B : Type 0} {k : ℕ} {r : Parser A} {f : A → Parser B} → Dotted w r → ((x : A) → Forked w k (f x)) → Dotted w (r >>= f)
+  dotted_then {r = r} {f = f} h n = record { aside = λ e d l m. aside_then w.one f (r (here w.token w.one l m)) (h.aside e d l m) (λ x. (n x).one) }
+
+  pub dotted_start : {A : Type 0} {f : ℕ → Parser A} → ((n : ℕ) → Dotted w (f n)) → Dotted w (start >>= f)
+  dotted_start h = record { aside = λ e d l m. (h (start_of (here w.token w.one l m))).aside e d l m }
+
+  -- behind a symbol that is no name
+  pub dotted_else : {A : Type 0} {v : Parser A} (x : Symbol) (r : Parser A) → same s.Name x ≡ false → Dotted w v → Dotted w (λ p. if sees x p then r p else v p)
+  unfolding sees symbol
+  dotted_else {v = v} x r n k = record {
+    aside = λ e d l m.
+        let p = here w.token w.one l m in
+        subst (λ c. Aside w.one (if c then r p else v p)) (sym (only_name (symbol_of w.token) x e n)) (k.aside e d l m);
+  }
+
+  -- by a test that says no before a `.`
+  pub dotted_no : {A : Type 0} {v : Parser A} (c : Place → Bool) (r : Parser A) → Silent w c
+      → Dotted w v → Dotted w (λ p. if c p then r p else v p)
+  dotted_no {v = v} c r quiet k = record {
+    aside = λ e d l m.
+        let p = here w.token w.one l m in
+        subst (λ z. Aside w.one (if z then r p else v p)) (sym (quiet e w.one l m d)) (k.aside e d l m);
+  }
+
+module _ (set : Setting) {w : Fork} (link : Link set w) where
+  -- a name, and what goes beyond the token behind it
+  pub name_aside : {B : Type 0} (f : List ℕ → Parser B) → same (symbol_of w.token) s.Name ≡ true → (l m : ℕ) → BeyondOf w.one (f w.token.bytes (at_rest w.one w.token.span.end m)) → (z : Bool) → w.stands m ≡ z
+      → Aside w.one ((read.name set >>= f) (here w.token w.one l m))
+  unfolding read.name
+  name_aside {B = B} f e l m h true z =
+      subst (λ (o : Outcome Tok). Aside {A = B} w.one (and_then (and_then o (λ t. pure t.bytes)) f)) (sym (expect_case set w link e w.one l m true z)) (inl h)
+  name_aside {B = B} f e l m h false z =
+      subst (λ (o : Outcome Tok). Aside {A = B} w.one (and_then (and_then o (λ t. pure t.bytes)) f)) (sym (expect_case set w link e w.one l m false z)) (inr tt)
 
 -- the same parser, written otherwise
 pub forked_by : {A : Type 0} {w : Fork} {k : ℕ} {r t : Parser A} → ((p : Place) → t p ≡ r p) → Forked w k r → Forked w k t

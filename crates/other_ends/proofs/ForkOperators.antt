@@ -11,13 +11,13 @@ use Rattle.luau_lex.specs.Tokens.{Tok}
 use Rattle.luau_grammar.specs.Operators.{binary_of, unary_of, unary_tightness}
 use Rattle.luau_grammar.specs.Reading.{Setting, Parser, Outcome, Readers, ◌>>=◌, pure, span_from, and_then, refuse, next, raise, repeats}
 use Rattle.luau_grammar.specs.ReadExpressions as code
-use Rattle.other_ends.proofs.Fork.{Fork, Near, Shorter, Forked, Peeks, Names, here, both, least, at_start, at_span, done, peeks_symbol, peeks_of, Far, IsDeep}
+use Rattle.other_ends.proofs.Fork.{Fork, Near, Shorter, Forked, Peeks, Names, Dotted, Aside, here, both, least, at_start, at_span, done, peeks_symbol, peeks_of, Far, IsDeep}
 use Rattle.other_ends.proofs.ForkCases.{by_symbol}
-use Rattle.other_ends.proofs.ForkNames.{name_is, names_then, names_start}
+use Rattle.other_ends.proofs.ForkNames.{name_is, names_then, names_start, dotted_then, dotted_start}
 use Rattle.other_ends.proofs.ForkTokens.{refuses, any, raises}
 use Rattle.other_ends.proofs.ForkSteps.{steps, taken_of, weaker}
 use Rattle.other_ends.proofs.ForkTypes.{ForkReaders}
-use Rattle.other_ends.proofs.ForkExpressions.{assertion_forked, assertion_names}
+use Rattle.other_ends.proofs.ForkExpressions.{assertion_forked, assertion_names, assertion_before_dot}
 
 -- an operator and its right operand, where one comes next
 abbrev by_operator : Setting → Readers → (ℕ → Parser Expr) → ℕ → Expr → Option BinOp → Parser Expr
@@ -201,3 +201,21 @@ module _ (set : Setting) (inner : Readers) (w : Fork) (held : ForkReaders set w 
   pub expression_inside_names : Names true w (code.expression_inside set inner)
   unfolding code.expression_inside code.operation
   expression_inside_names = record { taken = λ e ts l m b z. (climb_names (length ts) 0).taken e ts l m b z; deep = λ e ts l m b z. (climb_names (length ts) 0).deep e ts l m b z }
+
+  -- ---- an expression that begins with a name before a `.`
+
+  operand_before_dot : (operation : ℕ → Parser Expr) → Dotted w (code.operand set inner operation)
+  unfolding code.operand symbol
+  operand_before_dot operation = record {
+    aside = λ e d l m.
+        subst (λ x. Aside w.one (code.operand_by set inner operation (unary_of x) (here w.token w.one l m))) (sym (name_is (symbol_of w.token) e)) ((assertion_before_dot set inner w held).aside e d l m);
+  }
+
+  climb_before_dot : (turns at : ℕ) → Dotted w (code.climb set inner (code.operation set inner turns) at)
+  unfolding code.climb
+  climb_before_dot turns at =
+      dotted_start (λ from. dotted_then (operand_before_dot (code.operation set inner turns)) (λ first. from_forked set inner w held (code.operation set inner turns) (operation_forked set inner w held turns) at from first))
+
+  pub expression_inside_before_dot : Dotted w (code.expression_inside set inner)
+  unfolding code.expression_inside code.operation
+  expression_inside_before_dot = record { aside = λ e d l m. (climb_before_dot (length w.one) 0).aside e d l m }

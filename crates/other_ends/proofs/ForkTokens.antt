@@ -10,7 +10,7 @@ use Rattle.luau_grammar.specs.declared.symbol.Symbol.TheVariants as s
 use Rattle.luau_grammar.specs.Places.{Place, symbol, sees, at_level, raised, behind}
 use Rattle.luau_grammar.specs.Reading.{Setting, Parser, Outcome, ◌>>◌, pure, and_then, refusal, deep_refusal, refuse, next, expect, eat, name, string, open_arguments, raise, phrase}
 use Rattle.grammar_faults.specs.Fronts.{BeginFrom}
-use Rattle.other_ends.proofs.Fork.{Fork, SamePlace, Near, Names, Link, Taken, IsDeep, taken_then, Far, Shorter, Forked, Peeks, IsLate, same_places, here, near_then, near_if, far_then, far_if, shorter_then, shorter_if, both, choose, least, done, peeks_sees, peeks_level, peeks_of}
+use Rattle.other_ends.proofs.Fork.{Fork, SamePlace, Near, Names, Link, Taken, Missed, Aside, Dotted, IsDeep, missed_taken, aside_then, taken_then, Far, Shorter, Forked, Peeks, IsLate, same_places, here, near_then, near_if, far_then, far_if, shorter_then, shorter_if, both, choose, least, done, peeks_sees, peeks_level, peeks_of}
 
 module _ (set : Setting) (b : ℕ) where
   refusal_late : (ts : List Tok) (l m : ℕ) → BeginFrom b ts → IsLate b (refusal set (record { ahead = ts; last = l; level = m }))
@@ -102,7 +102,7 @@ kept k (Ok x) at p h = h
 kept k (Err e) at p h = tt
 
 module _ (set : Setting) (bound : ℕ) (A : Type 0) where
-  abbrev phrase_if : Parser A → (Place → Bool) → Place → Bool → Outcome A
+  abbrev pub phrase_if : Parser A → (Place → Bool) → Place → Bool → Outcome A
   phrase_if r may p c = if c then and_then (r (raised p)) (λ x a. Ok (x, at_level p.level a)) else Err (if may p then deep_refusal set p else refusal set p)
 
   phrase_case : (r : Parser A) (may : Place → Bool) (p : Place) → Taken bound (r (raised p)) → IsDeep {A = A} (Err (deep_refusal set p)) → may p ≡ true → (c : Bool) → Taken bound (phrase_if r may p c)
@@ -115,7 +115,7 @@ module _ (set : Setting) (bound : ℕ) (A : Type 0) where
 
 inner_taken : {A : Type 0} (w : Fork) (r : Parser A) → Names false w r → same (symbol_of w.token) s.Name ≡ true → (ts : List Tok) (l m : ℕ) → BeginFrom w.bound ts → (z : Bool) → w.stands m ≡ z → Taken w.bound (r (here w.token ts l m))
 inner_taken w r n e ts l m b true k = n.taken e ts l m b k
-inner_taken w r n e ts l m b false k = inr (n.deep e ts l m b k)
+inner_taken w r n e ts l m b false k = missed_taken w.upto w.bound (r (here w.token ts l m)) (n.deep e ts l m b k)
 
 module _ (set : Setting) (A : Type 0) where
   deep_here : (t : Tok) (ts : List Tok) (l m : ℕ) → IsDeep {A = A} (Err (deep_refusal set (here t ts l m)))
@@ -199,13 +199,35 @@ module _ (set : Setting) {w : Fork} where
   }
 
 module _ (set : Setting) {w : Fork} (link : Link set w) where
+  phrase_missed : {A : Type 0} {r : Parser A} (may : Place → Bool) → (same (symbol_of w.token) s.Name ≡ true → (ts : List Tok) (l m : ℕ) → may (here w.token ts l m) ≡ true) → Names false w r
+      → same (symbol_of w.token) s.Name ≡ true → (ts : List Tok) (l m : ℕ) → BeginFrom w.bound ts → w.stands m ≡ false → (y : Bool) → w.upto ≡ y → Missed false y w.bound (phrase set may r (here w.token ts l m))
+  unfolding phrase
+  phrase_missed {A = A} {r = r} may h k e ts l m b z true u =
+      let p = here w.token ts l m in
+      phrase_deep set w.bound A r may p (deep_here set A w.token ts l m) (h e ts l m) (nat_le m set.limit) (sym (link.level u m) ∙ z)
+  phrase_missed {A = A} {r = r} may h k e ts l m b z false u =
+      let p = here w.token ts l m in
+      phrase_case set w.bound A r may p (inner_taken w r k e ts l (m + 1) b (w.stands (m + 1)) refl) (deep_here set A w.token ts l m) (h e ts l m) (nat_le m set.limit)
+
   pub phrase_names : {A : Type 0} {r : Parser A} (may : Place → Bool) → (same (symbol_of w.token) s.Name ≡ true → (ts : List Tok) (l m : ℕ) → may (here w.token ts l m) ≡ true) → Names false w r → Names false w (phrase set may r)
   unfolding phrase
   phrase_names {A = A} {r = r} may h k = record {
     taken = λ e ts l m b z.
         let p = here w.token ts l m in
         phrase_case set w.bound A r may p (inner_taken w r k e ts l (m + 1) b (w.stands (m + 1)) refl) (deep_here set A w.token ts l m) (h e ts l m) (nat_le m set.limit);
-    deep = λ e ts l m b z.
-        let p = here w.token ts l m in
-        phrase_deep set w.bound A r may p (deep_here set A w.token ts l m) (h e ts l m) (nat_le m set.limit) (sym (link.level m) ∙ z);
+    deep = λ e ts l m b z. phrase_missed may h k e ts l m b z (w.upto) refl;
+  }
+
+module _ (set : Setting) (w : Fork) where
+  dotted_phrase : {A : Type 0} (r : Parser A) (may : Place → Bool) (p : Place) → Aside w.one (r (raised p)) → IsDeep {A = A} (Err (deep_refusal set p)) → may p ≡ true → (c : Bool) → Aside w.one (phrase_if set w.bound A r may p c)
+  dotted_phrase r may p h d e true = aside_then w.one (λ x a. Ok (x, at_level p.level a)) (r (raised p)) h (λ x b a l. l)
+  dotted_phrase {A = A} r may p h d e false = subst (λ z. Aside {A = A} w.one (Err (if z then deep_refusal set p else refusal set p))) (sym e) (inr d)
+
+module _ (set : Setting) {w : Fork} where
+  pub phrase_dotted : {A : Type 0} {r : Parser A} (may : Place → Bool) → (same (symbol_of w.token) s.Name ≡ true → (ts : List Tok) (l m : ℕ) → may (here w.token ts l m) ≡ true) → Dotted w r → Dotted w (phrase set may r)
+  unfolding phrase
+  phrase_dotted {A = A} {r = r} may h k = record {
+    aside = λ e d l m.
+        let p = here w.token w.one l m in
+        dotted_phrase set w r may p (k.aside e d l (m + 1)) (deep_here set A w.token w.one l m) (h e w.one l m) (nat_le m set.limit);
   }

@@ -20,12 +20,12 @@ use Rattle.luau_grammar.specs.Reading.{Setting, Parser, Outcome, Readers, ◌>>=
 use Rattle.luau_grammar.specs.ReadPhrases as phrases
 use Rattle.luau_grammar.specs.ReadTypes as code
 use Rattle.luau_grammar.specs.ReadTypes.{Members, Braced, goes_braced, goes_members, goes_marks, goes_options}
-use Rattle.other_ends.proofs.Fork.{Fork, Forked, Peeks, Names, Link, IsDeep, Far, BeyondOf, perhaps, here, beyond_then, both, choose, choose2, either_name, least, done, given, at_start, at_last, at_here, at_span, to_level, peeks_sees, peeks_const, peeks_of, peeks_and, peeks_or, peeks_symbol, peeks_start}
+use Rattle.other_ends.proofs.Fork.{Fork, Forked, Peeks, Names, Link, Dotted, Aside, IsDeep, Far, BeyondOf, perhaps, here, beyond_then, both, choose, choose2, either_name, least, done, given, at_start, at_last, at_here, at_span, to_level, peeks_sees, peeks_const, peeks_of, peeks_and, peeks_or, peeks_symbol, peeks_start}
 use Rattle.other_ends.proofs.ForkCases.{by_symbol}
-use Rattle.other_ends.proofs.ForkNames.{two_of, two_or, only_name, name_is, then_if, name_names, next_names, expect_names, name_beyond, next_beyond, expect_beyond, names_then, names_start, names_if, names_else, forked_by}
-use Rattle.other_ends.proofs.ForkTokens.{refuses, any, token, eaten, a_name, a_string, raises, phrased, phrase_names}
+use Rattle.other_ends.proofs.ForkNames.{two_of, two_or, only_name, name_is, then_if, name_names, next_names, expect_names, name_beyond, next_beyond, expect_beyond, names_then, names_start, names_if, names_else, dotted_then, dotted_start, dotted_else, dotted_no, name_aside, forked_by}
+use Rattle.other_ends.proofs.ForkTokens.{refuses, any, token, eaten, a_name, a_string, raises, phrased, phrase_names, phrase_dotted}
 use Rattle.other_ends.proofs.ForkSteps.{steps, in_list}
-pub use Rattle.other_ends.proofs.ForkBraces.{no_braced, right_of, left_of, left_or, right_or, pure_case, peeks_goes_on, peeks_front, two_named, two_tail, two_access, two_property, two_typeof, peeks_separator, peeks_braced, peeks_members, separator_forked, one_braced_forked, braced_forked, one_braced_names, braced_names, braced_beyond}
+pub use Rattle.other_ends.proofs.ForkBraces.{no_braced, right_of, left_of, left_or, right_or, pure_case, peeks_goes_on, peeks_front, two_named, two_tail, two_access, two_property, two_typeof, silent_name, silent_named, silent_tail, silent_brace, silent_typeof, peeks_separator, peeks_braced, peeks_members, separator_forked, one_braced_forked, braced_forked, one_braced_names, braced_names, braced_beyond}
 
 abbrev at_rest : List Tok → ℕ → ℕ → Place
 at_rest ts l m = record { ahead = ts; last = l; level = m }
@@ -39,6 +39,8 @@ pub record ForkReaders (set : Setting) (w : Fork) (r : Readers) : Type 0 where
   pub block : Forked w 0 (r.block)
   pub exp_named : Names false w (r.exp)
   pub typ_named : Names false w (r.typ None)
+  pub exp_dotted : Dotted w (r.exp)
+  pub typ_dotted : Dotted w (r.typ None)
 
 module _ (set : Setting) (inner : Readers) (w : Fork) (held : ForkReaders set w inner) where
   pub exp_forked : Forked w 1 (phrases.expression set inner)
@@ -64,6 +66,14 @@ module _ (set : Setting) (inner : Readers) (w : Fork) (held : ForkReaders set w 
   pub typ_names : Names false w (phrases.typ set inner None)
   unfolding phrases.typ symbol
   typ_names = phrase_names set held.link (phrases.may_begin_type None) (λ e ts l m. ap phrases.begins_type (name_is (symbol_of w.token) e)) held.typ_named
+
+  pub exp_before_dot : Dotted w (phrases.expression set inner)
+  unfolding phrases.expression symbol
+  exp_before_dot = phrase_dotted set phrases.may_begin_expression (λ e ts l m. ap expressions.begins (name_is (symbol_of w.token) e)) held.exp_dotted
+
+  pub typ_before_dot : Dotted w (phrases.typ set inner None)
+  unfolding phrases.typ symbol
+  typ_before_dot = phrase_dotted set (phrases.may_begin_type None) (λ e ts l m. ap phrases.begins_type (name_is (symbol_of w.token) e)) held.typ_dotted
 
   pub variadic_forked : Forked w 1 (code.variadic set inner)
   unfolding code.variadic
@@ -149,6 +159,9 @@ module _ (set : Setting) (inner : Readers) (w : Fork) (held : ForkReaders set w 
   unfolding code.member code.member_name
   same_member found p = ap (λ z. if begins_tail p then tailed_member found p else z) (then_if (begins_named p) (colon_name p) (Ok (false, p)) (named_member found))
 
+  member_before_dot : (found : Members) → Dotted w (named_member found false)
+  member_before_dot found = dotted_then typ_before_dot (λ t. done (record { types = found.types ++ t ∷ []; named = found.named || false; tailed = false }))
+
   pub member_forked : (found : Members) → Forked w 1 (code.member set inner found)
   member_forked found =
       forked_by (same_member found)
@@ -157,9 +170,10 @@ module _ (set : Setting) (inner : Readers) (w : Fork) (held : ForkReaders set w 
       (names_if begins_named (perhaps (names_then colon_name_names (named_member_forked found))) (names_then typ_names (λ t. done (record { types = found.types ++ t ∷ []; named = found.named || false; tailed = false }))))
       (λ e l m c z. beyond_then w.one (λ t. pure (record { types = found.types ++ t ∷ []; named = found.named; tailed = true })) (code.tail set inner (here w.token w.one l m)) (tail_beyond e l m c z)
       (λ t. (done {w = w} {A = Members} (record { types = found.types ++ t ∷ []; named = found.named; tailed = true })).one))
+      (silent_tail w) (dotted_no begins_named (λ p. and_then (colon_name p) (named_member found)) (silent_named w) (member_before_dot found))
       (least 1 refl (both tail_forked (λ t. done (record { types = found.types ++ t ∷ []; named = found.named; tailed = true }))))
       (choose2 begins_named two_named (names_then colon_name_names (named_member_forked found)) (names_then typ_names (λ t. done (record { types = found.types ++ t ∷ []; named = found.named || false; tailed = false })))
-      (colon_name_beyond found)
+      (colon_name_beyond found) (silent_named w) (member_before_dot found)
       (least 1 refl (both colon_name_forked (named_member_forked found))) (named_member_forked found false)))
 
   pub another_member_forked : (found : Members) → Forked w 1 (code.another_member set inner found)
@@ -191,7 +205,7 @@ module _ (set : Setting) (inner : Readers) (w : Fork) (held : ForkReaders set w 
   pub result_forked : Forked w 1 (code.result set inner)
   unfolding code.result
   result_forked =
-      choose (peeks_sees s.LeftParen) (least 1 refl (both listed_forked after_list_forked)) (choose2 begins_tail two_tail tail_names typ_names tail_beyond tail_forked typ_forked)
+      choose (peeks_sees s.LeftParen) (least 1 refl (both listed_forked after_list_forked)) (choose2 begins_tail two_tail tail_names typ_names tail_beyond (silent_tail w) typ_before_dot tail_forked typ_forked)
 
   pub maybe_results_forked : Forked w 0 (code.maybe_results set inner)
   unfolding code.maybe_results
@@ -368,6 +382,10 @@ module _ (set : Setting) (inner : Readers) (w : Fork) (held : ForkReaders set w 
   table_names from =
       names_then (braced_names set property_forked property_names) (λ found. both (token set s.RightBrace) (λ _. both (at_span from) (λ span. done (tree.the_type span (tree.TableType (props found.items))))))
 
+  array_before_dot : (from : ℕ) → Dotted w (code.array set inner from)
+  unfolding code.array
+  array_before_dot from = dotted_then typ_before_dot (λ t. both (token set s.RightBrace) (λ _. both (at_span from) (λ span. done (tree.the_type span (tree.Array t)))))
+
   brace_test : same (symbol_of w.token) s.Name ≡ true → (l m : ℕ) → (sees s.RightBrace (here w.token w.one l m) || begins_property (here w.token w.one l m)) ≡ true → begins_property (here w.token w.one l m) ≡ true
   unfolding sees symbol same
   brace_test e l m c = right_or (same (symbol_of w.token) s.RightBrace) (begins_property (here w.token w.one l m)) (only_name (symbol_of w.token) s.RightBrace e refl) c
@@ -384,7 +402,7 @@ module _ (set : Setting) (inner : Readers) (w : Fork) (held : ForkReaders set w 
   unfolding code.table_or_array
   table_or_array_forked =
       least 1 refl (both at_start (λ from. both (token set s.LeftBrace) (λ _.
-      choose2 (λ p. sees s.RightBrace p || begins_property p) (two_or (two_of (peeks_sees s.RightBrace)) two_property) (table_names from) (array_names from) (table_beyond from) (table_forked from) (array_forked from))))
+      choose2 (λ p. sees s.RightBrace p || begins_property p) (two_or (two_of (peeks_sees s.RightBrace)) two_property) (table_names from) (array_names from) (table_beyond from) (silent_brace w) (array_before_dot from) (table_forked from) (array_forked from))))
 
   pub typeof_forked : Forked w 1 (code.typeof_form set inner)
   unfolding code.typeof_form
@@ -442,6 +460,28 @@ module _ (set : Setting) (inner : Readers) (w : Fork) (held : ForkReaders set w 
   pub name_form_forked : Forked w 1 (code.name_form set inner)
   unfolding code.name_form
   name_form_forked = either_name sees_typeof two_typeof typeof_names named_names typeof_forked named_forked
+
+  abbrev behind_dot : ℕ → List ℕ → Parser TypeSyntax
+  behind_dot from first = read.name set >>= (λ second. code.type_arguments set inner >>= (λ args. read.span_from from >>= (λ span. pure (tree.the_type span (tree.Named (Some first) second args)))))
+
+  behind_dot_forked : (from : ℕ) (first : List ℕ) → Forked w 1 (behind_dot from first)
+  behind_dot_forked from first = least 1 refl (both (a_name set) (λ second. both type_arguments_forked (λ args. both (at_span from) (λ span. done (tree.the_type span (tree.Named (Some first) second args))))))
+
+  dotted_beyond : (from : ℕ) (first : List ℕ) (l m : ℕ) → same (first_symbol w.one) s.Dot ≡ true → BeyondOf w.one (code.named_behind set inner from first (at_rest w.one l m))
+  unfolding code.named_behind code.dotted sees symbol same
+  dotted_beyond from first l m d =
+      subst (λ c. BeyondOf w.one (if c then (read.expect set s.Dot >>= (λ _. behind_dot from first)) (at_rest w.one l m) else code.undotted set inner from first (at_rest w.one l m))) (sym d)
+      (beyond_then w.one (λ _. behind_dot from first) (read.expect set s.Dot (at_rest w.one l m)) (expect_beyond set s.Dot w.one l m w.one_next refl d) (λ _. (behind_dot_forked from first).one))
+
+  named_before_dot : Dotted w (code.named set inner)
+  unfolding code.named
+  named_before_dot = dotted_start {f = λ from. read.name set >>= (λ first. code.named_behind set inner from first)} (λ from. record {
+    aside = λ e d l m. name_aside set held.link (code.named_behind set inner from) e l m (dotted_beyond from w.token.bytes w.token.span.end m d) (w.stands m) refl;
+  })
+
+  name_form_before_dot : Dotted w (code.name_form set inner)
+  unfolding code.name_form
+  name_form_before_dot = dotted_no sees_typeof (code.typeof_form set inner) (silent_typeof w) named_before_dot
 
   pub form_by_forked : (x : Symbol) → Forked w 1 (code.form_by set inner x)
   form_by_forked s.Nil = word_forked tree.NilType
@@ -555,6 +595,18 @@ module _ (set : Setting) (inner : Readers) (w : Fork) (held : ForkReaders set w 
   unfolding code.basic same
   basic_names = names_else s.LeftParen (code.listed set inner >>= code.listed_type set inner) refl form_names
 
+  form_before_dot : Dotted w (code.form set inner)
+  unfolding code.form symbol
+  form_before_dot = record { aside = λ e d l m. subst (λ x. Aside w.one (code.form_by set inner x (here w.token w.one l m))) (sym (name_is (symbol_of w.token) e)) (name_form_before_dot.aside e d l m) }
+
+  basic_before_dot : Dotted w (code.basic set inner None)
+  unfolding code.basic same
+  basic_before_dot = dotted_else s.LeftParen (code.listed set inner >>= code.listed_type set inner) refl form_before_dot
+
+  option_before_dot : Dotted w (code.option set inner None)
+  unfolding code.option
+  option_before_dot = dotted_start (λ from. dotted_then basic_before_dot (λ t. marks_forked from t))
+
   abbrev optioned : ℕ → Parser TypeSyntax
   optioned from = code.option set inner None >>= (λ first. code.joined set inner from first)
 
@@ -579,4 +631,16 @@ module _ (set : Setting) (inner : Readers) (w : Fork) (held : ForkReaders set w 
         let p = here w.token ts l m in
         subst (λ c. IsDeep (and_then (if c then (read.next set >> pure (tt {0})) p else Ok (tt {0}, p)) barred))
         (sym (ap₂ (λ x y. x || y) (only_name (symbol_of w.token) s.Pipe e refl) (only_name (symbol_of w.token) s.Ampersand e refl))) (barred_names.deep e ts l m b z);
+  }
+
+  barred_before_dot : Dotted w (barred tt)
+  barred_before_dot = dotted_start (λ from. dotted_then option_before_dot (λ first. joined_forked from first))
+
+  pub type_inside_before_dot : Dotted w (code.type_inside set inner None)
+  unfolding code.type_inside code.bar sees symbol same
+  type_inside_before_dot = record {
+    aside = λ e d l m.
+        let p = here w.token w.one l m in
+        subst (λ c. Aside w.one (and_then (if c then (read.next set >> pure (tt {0})) p else Ok (tt {0}, p)) barred))
+        (sym (ap₂ (λ x y. x || y) (only_name (symbol_of w.token) s.Pipe e refl) (only_name (symbol_of w.token) s.Ampersand e refl))) (barred_before_dot.aside e d l m);
   }

@@ -191,14 +191,20 @@ type_there (SeenExpr other t b ∷ seen) id type live d (suc k, l, e) = by_test 
     by_test false m q next = next q.1
 type_there (SeenBody other b ∷ seen) id type live d (suc k, l, e) = type_there seen id type live d (k, omega (arith, l), e)
 
+-- what is seen of an expression of the module, or of a target, is its type by its number
+pub seen_typed : (an : Analysis) (w : World) (s : State) (frame : Frame) (id : ℕ) (type : Term) (live : Bool) → Fit an → Runs an w s frame → Contains (seen_of an frame) (SeenExpr id type live)
+    → type_at (seen_of an frame) id ≡ type
+seen_typed an w s frame id type live fit r c = type_there (seen_of an frame) id type live
+    (ap are_distinct (ids_seen (seen_of an frame)) ∙ (ap (λ (ns : List Numbered). are_distinct (numbered_ids ns)) (one_seen (rules_of an frame))
+    ∙ (ap are_distinct (ids_numbered (of_block (rules_of an frame).reading.block))
+    ∙ (ap (λ (x : ReadModule). are_distinct (filter_map expr_number (of_block x.block))) (reads_same an w s frame fit r) ∙ (fits an w s frame fit r).expressions))))
+    c
+
 -- the type of an expression, read by its number, is its type in the map at its turn
 pub typed_at : (an : Analysis) (w : World) (s : State) (frame : Frame) (map : TypeMap) (e : Expr) → Fit an → Runs an w s frame → Placed an frame (seen_expr (rules_of an frame) map e)
     → type_of (seen_of an frame) e ≡ typ (rules_of an frame) map e
 typed_at an w s frame map (the_expr id span kind) fit r placed =
-    type_there (seen_of an frame) id (typ (rules_of an frame) map (the_expr id span kind)) (not map.dead)
-    (ap are_distinct (ids_seen (seen_of an frame)) ∙ (ap (λ (ns : List Numbered). are_distinct (numbered_ids ns)) (one_seen (rules_of an frame))
-    ∙ (ap are_distinct (ids_numbered (of_block (rules_of an frame).reading.block))
-    ∙ (ap (λ (x : ReadModule). are_distinct (filter_map expr_number (of_block x.block))) (reads_same an w s frame fit r) ∙ (fits an w s frame fit r).expressions))))
+    seen_typed an w s frame id (typ (rules_of an frame) map (the_expr id span kind)) (not map.dead) fit r
     (placed (SeenExpr id (typ (rules_of an frame) map (the_expr id span kind)) (not map.dead)) (contains_head _ _))
 
 -- ---- an operand that is checked

@@ -1,4 +1,7 @@
-//! The error that `parse` answers for a text is the fault of the text.
+//! The fault of a text.
 #![tactic(auto)]
 
 pub mod laws;
+mod module;
+
+pub use module::parse_text;

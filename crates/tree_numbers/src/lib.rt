@@ -13,8 +13,6 @@ mod parts;
 mod pass;
 mod stats;
 mod tails;
-#[cfg(test)]
-mod tests;
 mod type_parts;
 mod types;
 

@@ -11,4 +11,4 @@ pub returns-clause-ambiguous : goal.returns-clause-ambiguous
 returns-clause-ambiguous c = λ text ts at o h. ambiguous_fault text ts o at h
 
 pub returns-clause-too_deep : goal.returns-clause-too_deep
-returns-clause-too_deep c = deep_fault
+returns-clause-too_deep c = λ text ts at o h. deep_fault text ts o at h

@@ -1,7 +1,5 @@
 use Rattle.std.proofs.Common.{[], ◌∷◌, ◌<◌, arith}
 use Rattle.local_types.specs.Changes.{changed_by}
-use Rattle.local_types.specs.Entries.{IsMap}
-use Rattle.local_types.specs.Growing.{Grows}
 use Rattle.local_types.proofs.BothFacts.{all_changed, changed_built}
 use Rattle.local_types.proofs.GrowFacts.{map_stands, type_stands, odd_stands, even_stands, grows_less, grows_on, grows_then, made_one, made_from}
 use Rattle.local_types.proofs.types.LocalTypes.+changed.Goals as goal

@@ -1,7 +1,6 @@
 use Rattle.std.proofs.Common.{refl, arith}
 use Rattle.std.proofs.lemmas.Option.{slice_get_read}
 use Rattle.local_types.specs.Entries.{IsMap}
-use Rattle.local_types.specs.declared.node.MapNode.{MapNode}
 use Rattle.local_types.proofs.GrowFacts.{entries_by_node, node_made}
 use Rattle.local_types.proofs.types.LocalTypes.node.Goals as goal
 

@@ -1,0 +1,7 @@
+//! The parser of function bodies, and of what stands before them.
+#![tactic(auto)]
+
+mod bodies;
+mod reader;
+
+pub use reader::Bodies;

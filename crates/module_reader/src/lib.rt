@@ -1,0 +1,6 @@
+//! The parser of modules: the syntax tree of a module's text, without numbers.
+#![tactic(auto)]
+
+mod module;
+
+pub use module::bare;

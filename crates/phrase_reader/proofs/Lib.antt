@@ -1,0 +1,4 @@
+pub mod Lists
+pub mod OneType
+pub mod Repeats
+pub mod Steps

@@ -1,0 +1,20 @@
+use Rattle.std.proofs.Common.{rules, arith, ◌≡◌, sym, ◌∙◌, ap, refl}
+use Rattle.std.proofs.lemmas.Result.{err_from_is_err_and}
+use Rattle.std.specs.Prelude.{Err}
+use Rattle.phrase_reader.proofs.Repeats.{stops, refuses, goes_on, fails}
+use Rattle.phrase_reader.proofs.Lists.{items_seen}
+use Rattle.prefix_reader.proofs.reader.Prefixes.fields.Goals as goal
+
+pub returns-then-turns-eq0 : goal.returns-then-turns-eq0
+returns-then-turns-eq0 g c _ = refuses c.loop-tokens.invariant (sym c.goes_on.ensures ∙ c.loop-tokens-test.true) c.if-turns-eq0.true ∙ ap Err (sym c.refusal.ensures)
+
+pub loop-tokens-preserved : goal.loop-tokens-preserved
+loop-tokens-preserved g c = goes_on c.loop-tokens.invariant (sym c.goes_on.ensures ∙ c.loop-tokens-test.true) c.if-turns-eq0.false c.in_ok-given.ensures
+
+pub returns-in_err-given : goal.returns-in_err-given
+returns-in_err-given g c =
+    let p = err_from_is_err_and c.from_residual.result c.from_residual.ensures.1
+    in rw (p.1, p.2) (λ ne. fails c.loop-tokens.invariant (sym c.goes_on.ensures ∙ c.loop-tokens-test.true) c.if-turns-eq0.false (c.in_err-given.ensures ne))
+
+pub returns : goal.returns
+returns g c = stops c.loop-tokens.invariant (sym c.goes_on.ensures ∙ c.loop-tokens-test.false) ∙ search (rules, items_seen)
