@@ -296,27 +296,25 @@ fn a_token_stands_too_deep_whatever_follows(rt: HostRuntime) -> Result<(), Fail>
 fn each_part_of_a_module_begins_one(rt: HostRuntime) -> Result<(), Fail> {
     let alloc = rt.alloc();
     let mut text = String::new(alloc);
-    for token in [
-        "local", "s", "=", "{", "}", "export", "type", "S", "<", "T", ">", "=", "{", "items", ":",
-        "{", "[", "T", "]", ":", "boolean", "}", "}", "local", "a", ",", "b", "=", "0", ",", "1e3",
-        "@", "native", "local", "function", "g", "(", "by", ":", "number", ")", ":", "number",
-        "return", "a", "+", "by", "end", "function", "s", ".", "new", "(", "...", ")", "return",
-        "{", "x", "=", "1", ",", "[", "2", "]", "=", "3", "}", "end", "function", "s", ":", "add",
-        "(", "v", ")", "if", "v", "then", "return", "false", "elseif", "a", "then", "b", "=", "1",
-        "else", "self", ".", "n", "+=", "1", "end", "end", "for", "_", ",", "v", "in", "s", "do",
-        "if", "v", "==", "1", "then", "continue", "end", "a", "=", "g", "(", "1", ")", "end",
-        "for", "i", "=", "1", ",", "b", ",", "2", "do", "break", "end", "while", "a", ">", "0",
-        "do", "a", "-=", "1", "end", "repeat", "local", "done", "=", "a", "until", "done", "do",
-        "s", ".", "n", ",", "s", "[", "1", "]", "=", "b", ",", "if", "a", "then", "b", "else", "-",
-        "1", "end", "print", "(", "`x{", "a", "}y`", ")", ";", "return", "s", "::", "any",
+    for part in [
+        "local s = { } export type S < T > = { items : { [ T ] : boolean } }",
+        "local a , b = 0 , 1e3 @ native local function g ( by : number ) : number return a + by end",
+        "function s . new ( ... ) return { x = 1 , [ 2 ] = 3 } end",
+        "function s : add ( v ) if v then return false elseif a then b = 1 else self . n += 1 end end",
+        "for _ , v in s do if v == 1 then continue end a = g ( 1 ) end",
+        "for i = 1 , b , 2 do break end while a > 0 do a -= 1 end",
+        "repeat local done = a until done do s . n , s [ 1 ] = b , if a then b else - 1 end",
+        "print ( `x{ a }y` ) ; return s :: any",
     ] {
-        text.push_str(token)?;
-        let column = text.len().saturating_add(1);
-        let line = format!(in alloc; "a.luau:1:{column}: refused: unexpected end\n")?;
-        let begins = refuses(alloc, text.as_str(), line.as_str())?
-            || is_module(alloc, text.as_str())?;
-        assert!(rt; begins, "{token:?}");
-        text.push_str(" ")?;
+        for token in part.split_whitespace() {
+            text.push_str(token)?;
+            let column = text.len().saturating_add(1);
+            let line = format!(in alloc; "a.luau:1:{column}: refused: unexpected end\n")?;
+            let begins = refuses(alloc, text.as_str(), line.as_str())?
+                || is_module(alloc, text.as_str())?;
+            assert!(rt; begins, "{token:?}");
+            text.push_str(" ")?;
+        }
     }
     assert!(rt; is_module(alloc, text.as_str())?);
     Ok(())
