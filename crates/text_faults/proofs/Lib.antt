@@ -1,1 +1,2 @@
 pub mod TextErrors
+pub mod Within
