@@ -1,0 +1,5 @@
+pub mod Levels
+pub mod DeepTypes
+pub mod DeepValues
+pub mod DeepStatements
+pub mod Deepest

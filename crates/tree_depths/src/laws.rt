@@ -1,0 +1,17 @@
+//! How deep the trees of tokens are. Each law is the contract of a function that does nothing.
+ghost use Rattle.std.specs.Prelude.{ℕ, ◌≤◌, List};
+ghost use Rattle.luau_tree.specs.Tree.{Block};
+ghost use Rattle.luau_lex.specs.Tokens.{Tok};
+ghost use Rattle.luau_grammar.specs.Places.{Rules};
+ghost use Rattle.luau_grammar.specs.Modules.{IsBare, strict};
+ghost use Rattle.luau_grammar.specs.Laws.{StandUpTo};
+ghost use Rattle.tree_depths.specs.Depths.{of_block, deepest};
+
+/// Where tokens stand at levels up to a limit alone, statements, expressions, bodies and written
+/// types stand in one another at most as deep as the limit's product with itself and six more; by
+/// the rules of the program, whose limit is 200, at most 41,200 deep.
+pub fn trees_are_no_deeper_than_levels_allow()
+    ensures bounded { (rules : Rules) (limit : ℕ) → StandUpTo rules limit → (ts : List Tok) (b : Block) →
+        IsBare rules ts b → of_block b ≤ deepest limit }
+    ensures strict { (text : List ℕ) (ts : List Tok) (b : Block) → IsBare (strict text) ts b → of_block b ≤ 41200 }
+{}
