@@ -3,3 +3,4 @@ pub mod DeepTypes
 pub mod DeepValues
 pub mod DeepStatements
 pub mod Deepest
+pub mod Marked
