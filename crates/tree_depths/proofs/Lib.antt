@@ -4,3 +4,4 @@ pub mod DeepValues
 pub mod DeepStatements
 pub mod Deepest
 pub mod Marked
+pub mod SameDepth

@@ -146,6 +146,6 @@ abbrev mutual
   of_key (tree.NameKey name) = 0
   of_key (tree.Indexer key) = of_type key
 
--- as deep as a tree is at most whose tokens stand at levels up to a limit
+-- as deep as trees are at most whose tokens stand at levels up to a limit
 abbrev pub deepest : ℕ → ℕ
 deepest limit = limit * (limit + 6)
