@@ -1,7 +1,7 @@
 #!/usr/bin/env bash
 # Times how the built program reads texts that open one phrase after another, of 512 KiB and of 1 MiB, and prints both times:
-# each text may cost twice as much where it is twice as long. Then reads the deepest accepted text of each form that nests, with
-# 2 MiB of stack. Run `make build` first; nothing depends on what this prints.
+# each text may cost twice as much where it is twice as long. Then reads the deepest accepted text of each form that nests.
+# Run `make build` first; nothing depends on what this prints.
 source "$(dirname "$0")/common.sh"
 
 # A text of a file: what comes before, what opens a phrase so many times, what stands innermost, what closes it as often.
@@ -45,20 +45,25 @@ row 'functions' 'x = ' 'function() '
 row 'statements' '' 'x = 1 '
 row 'assignments' 'a' ', a'
 
-# The deepest accepted text of a form is read: it ends with a refusal for its form, or without a line, never by a signal.
+# The text in the folder `deep` is read: it ends with a refusal for its form, or without a line, never by a signal.
+is_read() {
+    local status=0 line
+    line=$("$program" "$work/deep" 2>&1) || status=$?
+    case $status in
+        0 | 1 | 2) ;;
+        *) echo "$1: exit status $status" >&2; exit 1 ;;
+    esac
+    case $line in
+        *nesting* | *unexpected* | *ambiguous*) echo "$1: $line" >&2; exit 1 ;;
+    esac
+}
+
+# The deepest accepted text of a form.
 deepest() {
     rm -rf "$work/deep"
     mkdir "$work/deep"
     nested "$@" >"$work/deep/m.luau"
-    local status=0 line
-    line=$(ulimit -s 2048 && "$program" "$work/deep" 2>&1) || status=$?
-    case $status in
-        0 | 1 | 2) ;;
-        *) echo "$2: exit status $status with 2 MiB of stack" >&2; exit 1 ;;
-    esac
-    case $line in
-        *nesting* | *unexpected* | *ambiguous*) echo "$2: $line" >&2; exit 1 ;;
-    esac
+    is_read "$2"
 }
 
 deepest 'x = ' '(' 1 ')' 198
@@ -84,4 +89,17 @@ deepest 'type T = ' '(' T ')' 198
 deepest 'type T = ' '() -> ' T '' 198
 deepest 'local x: ' 'T<' T '>' 198
 deepest 'type T = U' '?' '' '' 199
-echo 'the deepest accepted text of each of 23 forms is read with 2 MiB of stack'
+# The deepest tree that is known of: types with marks behind them, each an argument of the next.
+awk 'BEGIN {
+    printf "type t = x"
+    for (i = 0; i < 198; i++) printf "<(x"
+    printf "?"
+    for (i = 1; i <= 198; i++) {
+        printf ")"
+        for (j = 0; j < i; j++) printf "?"
+        printf ">"
+        for (j = 0; j <= i; j++) printf "?"
+    }
+}' >"$work/deep/m.luau"
+is_read 'types with marks'
+echo 'the deepest accepted text of each of 24 forms is read'
