@@ -1,14 +1,13 @@
 -- The fault of a text stands within it.
-use Rattle.std.proofs.Common.{◌≡◌, ℕ, ◌+◌, ◌-◌, ◌<◌, ◌≤◌, List, [], ◌∷◌, ◌++◌, length, drop, sym, subst, inl, inr, Some, None, arith, length-drop}
+use Rattle.std.proofs.Common.{◌≡◌, ℕ, ◌+◌, ◌-◌, ◌<◌, ◌≤◌, List, [], ◌∷◌, ◌++◌, length, drop, sym, subst, inl, inr, None, arith, length-drop}
 use Rattle.luau_lex.specs.Tokens.{Tok}
 use Rattle.luau_lex.specs.declared.token.LexError.{LexError}
 use Rattle.luau_lex.specs.Places.{first_line_len, StandInOrder, fault_offset}
 use Rattle.luau_lex.specs.Lexed.{Lexed}
 use Rattle.luau_lex.proofs.OrderLemmas.{first_line_within}
 use Rattle.luau_lex.proofs.WithinLemmas.{text_fault}
-use Rattle.luau_grammar.specs.declared.error.ParseError.{ParseError}
-use Rattle.luau_grammar.specs.declared.error.ParseError.TheVariants.{Lex, NoMemory, Unexpected, UnexpectedEnd, AmbiguousCall, Nesting}
-use Rattle.fault_places.specs.Faults.{BeginBefore, IsFault, IsFirstFault}
+use Rattle.luau_grammar.specs.declared.error.ParseError.TheVariants.{Lex, Unexpected, UnexpectedEnd, AmbiguousCall, Nesting}
+use Rattle.fault_places.specs.Faults.{BeginBefore, IsFirstFault}
 use Rattle.text_faults.specs.TextFaults.{IsFaultOf}
 
 before_more : (at more : ℕ) (ts : List Tok) → at ≤ more → BeginBefore at ts → BeginBefore more ts
@@ -19,10 +18,11 @@ before_more at more (t ∷ ts) less h = (omega (arith, h.0, less), before_more a
 begin_within : (at : ℕ) (text : List ℕ) (ts : List Tok) → StandInOrder at text ts → BeginBefore (at + length text) ts
 begin_within at text [] h = tt
 begin_within at text (t ∷ ts) h =
-    let left = length-drop (t.span.end - at) text in
-    ( omega (arith, h.1, h.2)
-    , before_more (t.span.end + length (drop (t.span.end - at) text)) (at + length text) ts (omega (arith, h.0, h.1, h.2, left))
-      (begin_within t.span.end (drop (t.span.end - at) text) ts h.4) )
+    let left = length-drop (t.span.end - at) text in (
+      omega (arith, h.1, h.2),
+      before_more (t.span.end + length (drop (t.span.end - at) text)) (at + length text) ts (omega (arith, h.0, h.1, h.2, left))
+          (begin_within t.span.end (drop (t.span.end - at) text) ts h.4),
+    )
 
 tokens_begin : (text : List ℕ) (ts : List Tok) → Lexed text ts None → BeginBefore (length text) ts
 tokens_begin text ts h =
