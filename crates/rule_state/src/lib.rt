@@ -4,6 +4,11 @@
 //! how types lie in an arena is no part of them.
 #![tactic(auto)]
 
+mod answers;
+mod calls;
+mod choosing;
+mod conditions;
+mod ends;
 mod knowing;
 mod lists;
 mod maps;
@@ -12,7 +17,9 @@ mod operators;
 mod point;
 mod starting;
 mod state;
+mod tables;
 mod values;
 
+pub use answers::Answers;
 pub use point::{Point, Seen};
 pub use state::RuleState;
