@@ -7,13 +7,12 @@ use Rattle.type_arena.specs.declared.node.TypeRef.{TypeRef}
 use Rattle.type_normal.specs.Kinds.{unknown}
 use Rattle.local_types.specs.Entries.{type_of, entry_of}
 use Rattle.local_types.specs.declared.types.LocalTypes.{LocalTypes}
-use Rattle.report_rules.specs.Rules.{TypedBuiltin}
 use Rattle.report_rules.specs.Seen.{Seen, SeenExpr, SeenBody}
 use Rattle.report_rules.specs.TypeMap.{TypeMap, no_map}
-use Rattle.module_reading.specs.ReadRules.{typed_builtin}
+use Rattle.type_decl.specs.Signatures.{Signature}
 use Rattle.type_decl.specs.Tables.{declared_in}
 use Rattle.type_decl.specs.declared.table.SigTable.{SigTable}
-use Rattle.rule_state.specs.declared.point.Point.{Point}
+use Rattle.local_types.specs.declared.node.Point.{Point}
 use Rattle.rule_state.specs.declared.point.Seen.{Seen as SeenRef}
 use Rattle.rule_state.specs.declared.point.Seen.TheVariants.{Expr, Body}
 use Rattle.rule_state.specs.declared.state.RuleState.{RuleState}
@@ -30,15 +29,15 @@ pub record Work : Type 0 where
   pub ends : List (List TypeMap)
   pub seen : List Seen
   pub pending : List ℕ
-  pub builtins : List TypedBuiltin
+  pub builtins : List (List ℕ × Signature)
 
 -- where nothing is known and nothing was seen
-abbrev pub begun : List TypedBuiltin → Work
+abbrev pub begun : List (List ℕ × Signature) → Work
 begun builtins = record { value = unknown; held = []; lists = []; map = no_map; saved = []; ends = []; seen = []; pending = []; builtins = builtins }
 
--- the builtins that a table declares, as the rules read them
-abbrev pub builtins_in : SigTable → List TypedBuiltin
-builtins_in table = map typed_builtin (declared_in table.arena table.paths table.sigs)
+-- the builtins that a table declares, with their signatures
+abbrev pub builtins_in : SigTable → List (List ℕ × Signature)
+builtins_in table = declared_in table.arena table.paths table.sigs
 
 -- a point as a map
 abbrev pub map_of : LocalTypes → Point → TypeMap

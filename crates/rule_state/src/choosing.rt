@@ -18,6 +18,9 @@ impl<'a> RuleState<'a> {
     pub fn keep(&mut self, effects_later: bool) -> Result<(), AllocError>
         ensures { OnOk result (work_of self.new ≡ valued (held_term effects_later (work_of self.old).value) (work_of self.old)) }
     {
+        if effects_later {
+            return self.widen();
+        }
         Ok(())
     }
 
@@ -25,6 +28,8 @@ impl<'a> RuleState<'a> {
     pub fn cut_up(&mut self) -> Result<(), AllocError>
         ensures { OnOk result (work_of self.new ≡ valued (cut_up_term (work_of self.old).value) (work_of self.old)) }
     {
+        let at = self.types.cut_up(self.alloc, self.value)?;
+        self.value = at;
         Ok(())
     }
 
@@ -32,6 +37,9 @@ impl<'a> RuleState<'a> {
     pub fn live_only(&mut self) -> Result<(), AllocError>
         ensures { OnOk result (work_of self.new ≡ valued (where_live (work_of self.old).map (work_of self.old).value) (work_of self.old)) }
     {
+        if self.point.dead {
+            return self.plain(Plain::Never);
+        }
         Ok(())
     }
 
@@ -39,6 +47,12 @@ impl<'a> RuleState<'a> {
     pub fn builtin_or(&mut self, found: Option<&Use>) -> Result<(), AllocError>
         ensures { OnOk result (work_of self.new ≡ valued (builtin_or_term (option_map (λ u. meaning_of u.now) found) (work_of self.old).value) (work_of self.old)) }
     {
-        Ok(())
+        match found {
+            Some(Use::Builtin(path)) => {
+                let label = Label::of(Vec::from_slice(self.alloc, path.as_slice())?);
+                self.builtin(label)
+            }
+            _ => Ok(()),
+        }
     }
 }

@@ -3,7 +3,6 @@ ghost use Rattle.std.specs.Prelude.{◌≡◌, OnOk};
 ghost use Rattle.rule_state.specs.Branches.{ends_joined};
 ghost use Rattle.rule_state.specs.Work.{work_of};
 
-use crate::point::Point;
 use crate::state::RuleState;
 use std::alloc::AllocError;
 
@@ -12,6 +11,11 @@ impl<'a> RuleState<'a> {
     pub fn join_ends(&mut self) -> Result<(), AllocError>
         ensures { OnOk result (work_of self.new ≡ ends_joined (work_of self.old)) }
     {
+        if let Some(mut ends) = self.ends.pop() {
+            ends.reverse();
+            let point = self.types.joined(self.alloc, ends.as_slice())?;
+            self.point = point;
+        }
         Ok(())
     }
 }

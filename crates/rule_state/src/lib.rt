@@ -9,6 +9,7 @@ mod calls;
 mod choosing;
 mod conditions;
 mod ends;
+mod guarding;
 mod knowing;
 mod lists;
 mod maps;
@@ -21,5 +22,5 @@ mod tables;
 mod values;
 
 pub use answers::Answers;
-pub use point::{Point, Seen};
+pub use point::Seen;
 pub use state::RuleState;

@@ -5,7 +5,7 @@ ghost use Rattle.local_types.specs.Entries.{arena_of};
 ghost use Rattle.rule_state.specs.Sound.{IsConfined, KnowsTable};
 ghost use Rattle.rule_state.specs.Work.{work_of, begun, builtins_in};
 
-use crate::point::Point;
+use local_types::Point;
 use crate::state::RuleState;
 use local_types::LocalTypes;
 use std::alloc::{AllocError, Global};

@@ -2,10 +2,12 @@ ghost use Rattle.std.proofs.Props.{props};
 ghost use Rattle.type_arena.specs.Arena.{home_of};
 ghost use Rattle.local_types.specs.Entries.{arena_of};
 ghost use Rattle.local_types.proofs.PropFacts.{map_is_prop};
+ghost use mathlib.Core.Sum.{⊎_set};
 ghost use Rattle.std.specs.Prelude.{◌≡◌, map};
 ghost use Rattle.rule_state.specs.Sound.{IsSound, KnowsTable};
 
-use crate::point::{Point, Seen};
+use crate::point::Seen;
+use local_types::Point;
 use local_types::LocalTypes;
 use std::alloc::Global;
 use type_arena::TypeRef;
@@ -37,7 +39,7 @@ pub struct RuleState<'a> {
     /// What was seen, and the places in it of expressions whose type is still to come.
     pub(crate) seen: Vec<Seen>,
     pub(crate) pending: Vec<usize>,
-    ghost known: { KnowsTable types outside.items table.now } by { Prim.hlevel props },
+    ghost known: { KnowsTable types outside.items table.now } by { Prim.hlevel (props, ⊎_set) },
     ghost at_home: { home ≡ home_of (arena_of types) } by { Prim.hlevel props },
     ghost sound: { IsSound types outside.items value held.items (map (λ list. list.items) lists.items) point saved.items (map (λ list. list.items) ends.items) seen.items } by { Prim.hlevel (props, map_is_prop) },
 }

@@ -13,6 +13,11 @@ impl<'a> RuleState<'a> {
     pub fn row(&mut self, names: Vec<Label>) -> Result<(), AllocError>
         ensures { OnOk result (work_of self.new ≡ rowed names.items (work_of self.old)) }
     {
+        if let Some(mut types) = self.lists.pop() {
+            types.reverse();
+            let at = self.types.row_of(self.alloc, names, types.as_slice())?;
+            self.value = at;
+        }
         Ok(())
     }
 }
