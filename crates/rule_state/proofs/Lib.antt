@@ -4,3 +4,5 @@ pub mod WorkFacts
 pub mod SeenFacts
 pub mod OtherFacts
 pub mod TableFacts
+pub mod ListFacts
+pub mod EndFacts
