@@ -6,3 +6,5 @@ pub mod OtherFacts
 pub mod TableFacts
 pub mod ListFacts
 pub mod EndFacts
+pub mod GuardedFacts
+pub mod RefinedFacts
