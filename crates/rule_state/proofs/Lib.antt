@@ -3,3 +3,4 @@ pub mod SoundFacts
 pub mod WorkFacts
 pub mod SeenFacts
 pub mod OtherFacts
+pub mod TableFacts

@@ -1,4 +1,4 @@
-ghost use Rattle.std.specs.Prelude.{◌≡◌, option_map, length, map, IfOk};
+ghost use Rattle.std.specs.Prelude.{◌≡◌, option_map, length, map, Contains, IfOk, IfSome};
 ghost use Rattle.std.specs.Option.{option_copied};
 ghost use Rattle.std.proofs.Props.{props};
 ghost use Rattle.type_arena.specs.Frozen.{holding_of};
@@ -52,7 +52,8 @@ impl SigTable {
 
     /// The signature of a builtin, found by halving. None exactly for a path that isn't declared.
     pub fn get(&self, name: &[u8]) -> Option<&Sig>
-        ensures { option_map (meant (term_of (alone self.now.arena))) (option_copied result) ≡ declaration name.now (declared_in self.now.arena self.now.paths self.now.sigs) }
+        ensures means { option_map (meant (term_of (alone self.now.arena))) (option_copied result) ≡ declaration name.now (declared_in self.now.arena self.now.paths self.now.sigs) }
+        ensures among { IfSome result (λ sig. Contains self.now.sigs sig.now) }
     {
         let place = self.paths.as_slice().binary_search_by(
             |other|

@@ -13,5 +13,5 @@ unfolding rules_of_facts
 returns c =
     let table = c.args.self.now.table.now in
     read_signature (λ (r : Bor Sig). r.now) (meant (term_of (alone table.arena))) c.args.path.now c.get.result
-    ∙ ap (option_map (λ (s : Signature). typed_builtin (c.args.path.now, s))) c.get.ensures
+    ∙ ap (option_map (λ (s : Signature). typed_builtin (c.args.path.now, s))) c.get.ensures.means
     ∙ typed_declaration (declared_in table.arena table.paths table.sigs) c.args.path.now
