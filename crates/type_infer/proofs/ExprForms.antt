@@ -1,0 +1,88 @@
+-- What each form of an expression is made of.
+use Rattle.std.proofs.Common.{◌≡◌, ℕ, Bool, true, false, List, [], ◌∷◌, ◌++◌, refl, sym, ap, ◌∙◌, append_assoc, append-nil, length}
+use Rattle.std.specs.Prelude.{not}
+use Rattle.luau_tree.specs.declared.position.Span.{Span}
+use Rattle.luau_tree.specs.declared.names.BinOp.{BinOp}
+use Rattle.luau_tree.specs.declared.names.BinOp.TheVariants.{Or, And}
+use Rattle.luau_tree.specs.declared.names.UnOp.{UnOp}
+use Rattle.luau_tree.specs.Tree.{Expr, the_expr, Exprs, ExprKind, NameExpr, FunctionExpr, Interp, Body, Index, At, Call, Method, Paren, Unary, Binary, Assert, TypeSyntax}
+use Rattle.type_arena.specs.Term.{Term}
+use Rattle.type_normal.specs.Operations.{union, meet}
+use Rattle.type_normal.specs.Kinds.{unknown, string_type, falsy, truthy}
+use Rattle.report_rules.specs.Rules.{Rules}
+use Rattle.report_rules.specs.Effects.{effects}
+use Rattle.report_rules.specs.Forward.{property, unary_type, binary_type, first_or_never, typ, type_of_kind, type_of_target, literal_type, after}
+use Rattle.report_rules.specs.Seen.{Seen, seen_expr, seen_in, SeenExpr}
+use Rattle.rule_state.specs.Work.{Work}
+use Rattle.rule_state.specs.Moves.{valued, put_aside, taken, made, kept_map, restored, opened, closed, unlisted, retyped_at}
+use Rattle.rule_state.specs.Listed.{used}
+use Rattle.type_infer.specs.Steps.{with_expr, with_kind, with_form, with_path, changed, element, called_at, decided, with_body, with_values, key_name, with_target, with_target_name}
+use Rattle.type_infer.proofs.SeenFacts.{retyped_behind}
+use Rattle.type_infer.proofs.ItemForms.{element_is}
+
+-- two parts that were seen one after the other
+pub seen_both : (work : Work) (value : Term) (a b : List Seen) → record work { value = value; seen = (work.seen ++ a) ++ b } ≡ record work { value = value; seen = work.seen ++ (a ++ b) }
+seen_both work value a b = ap (λ (seen : List Seen). record work { value = value; seen = seen }) (append_assoc work.seen a b)
+
+pub expr_form : (rules : Rules) (id : ℕ) (span : Span) (kind : ExprKind) (work : Work)
+    → (let e = the_expr id span kind in changed (effects rules e) (closed (with_path rules e (with_form rules e (opened id work)))) ≡ with_expr rules e work)
+expr_form rules id span kind work =
+    let e = the_expr id span kind in
+    ap (λ (seen : List Seen). record work { value = typ rules work.map e; map = after rules work.map e; seen = seen })
+    (retyped_behind (typ rules work.map e) work.seen (SeenExpr id work.value (not work.map.dead)) (seen_in rules work.map kind))
+
+pub paren_form : (rules : Rules) (id : ℕ) (e : Expr) (work : Work) → restored (with_expr rules e (kept_map work)) ≡ with_kind rules id (Paren e) work
+paren_form rules id e work = refl
+
+pub index_form : (rules : Rules) (id : ℕ) (base : Expr) (name : List ℕ) (work : Work)
+    → (let one = restored (with_expr rules base (kept_map work)) in valued (property name one.value) one) ≡ with_kind rules id (Index base name) work
+index_form rules id base name work = refl
+
+pub method_form : (rules : Rules) (id : ℕ) (base : Expr) (name : List ℕ) (span : Span) (args : Exprs) (work : Work)
+    → valued unknown (restored (unlisted (with_values rules args (with_expr rules base (kept_map work))))) ≡ with_kind rules id (Method base name span args) work
+method_form rules id base name span args work = seen_both work unknown (seen_expr rules work.map base) _
+
+pub call_form : (rules : Rules) (id : ℕ) (span : Span) (callee : Expr) (args : Exprs) (work : Work)
+    → called_at rules (the_expr id span (Call callee args)) (restored (used (λ types value. first_or_never types) (with_values rules args (put_aside (with_expr rules callee (kept_map work))))))
+    ≡ with_kind rules id (Call callee args) work
+call_form rules id span callee args work = seen_both work _ (seen_expr rules work.map callee) _
+
+pub unary_form : (rules : Rules) (id : ℕ) (op : UnOp) (e : Expr) (work : Work)
+    → (let one = restored (with_expr rules e (kept_map work)) in valued (unary_type op one.value) one) ≡ with_kind rules id (Unary op e) work
+unary_form rules id op e work = refl
+
+pub and_form : (rules : Rules) (id : ℕ) (left right : Expr) (work : Work)
+    → restored (made union (with_expr rules right (decided rules left true (put_aside (made meet (valued falsy (put_aside (with_expr rules left (kept_map work)))))))))
+    ≡ with_kind rules id (Binary And left right) work
+and_form rules id left right work = seen_both work _ (seen_expr rules work.map left) _
+
+pub or_form : (rules : Rules) (id : ℕ) (left right : Expr) (work : Work)
+    → restored (made union (with_expr rules right (decided rules left false (put_aside (made meet (valued truthy (put_aside (with_expr rules left (kept_map work)))))))))
+    ≡ with_kind rules id (Binary Or left right) work
+or_form rules id left right work = seen_both work _ (seen_expr rules work.map left) _
+
+pub at_form : (rules : Rules) (id : ℕ) (base key : Expr) (work : Work)
+    → (let both = restored (taken (with_expr rules key (put_aside (with_expr rules base (kept_map work))))) in valued (element (key_name key) both.value) both) ≡ with_kind rules id (At base key) work
+at_form rules id base key work =
+    ap (λ (type : Term). record work { value = type; seen = (work.seen ++ seen_expr rules work.map base) ++ seen_expr rules (after rules work.map base) key }) (element_is rules work.map id base key)
+    ∙ seen_both work _ (seen_expr rules work.map base) _
+
+pub function_form : (rules : Rules) (id : ℕ) (body : Body) (work : Work) → valued (literal_type rules body) (with_body rules body work) ≡ with_kind rules id (FunctionExpr body) work
+function_form rules id body work = refl
+
+pub interp_form : (rules : Rules) (id : ℕ) (texts : List (List ℕ)) (parts : Exprs) (work : Work)
+    → valued string_type (restored (unlisted (with_values rules parts (kept_map work)))) ≡ with_kind rules id (Interp texts parts) work
+interp_form rules id texts parts work = refl
+
+-- an expression that nothing stands in
+pub leaf_form : (rules : Rules) (id : ℕ) (kind : ExprKind) (work : Work) → seen_in rules work.map kind ≡ [] → valued (type_of_kind rules work.map id kind) work ≡ with_kind rules id kind work
+leaf_form rules id kind work none =
+    ap (λ (ss : List Seen). record work { value = type_of_kind rules work.map id kind; seen = ss }) (sym (append-nil work.seen) ∙ ap (λ (ss : List Seen). work.seen ++ ss) (sym none))
+
+pub name_target_form : (rules : Rules) (id : ℕ) (span : Span) (name : List ℕ) (work : Work)
+    → (let e = the_expr id span (NameExpr name) in changed (effects rules e) (closed (with_target_name rules e (opened id work))) ≡ with_target rules e work)
+name_target_form rules id span name work =
+    let e = the_expr id span (NameExpr name) in
+    ap (λ (seen : List Seen). record work { value = type_of_target rules work.map e; map = after rules work.map e; seen = seen })
+    (ap (λ (ss : List Seen). retyped_at (type_of_target rules work.map e) (length work.seen) ss) (sym (append-nil (work.seen ++ SeenExpr id work.value (not work.map.dead) ∷ [])))
+    ∙ retyped_behind (type_of_target rules work.map e) work.seen (SeenExpr id work.value (not work.map.dead)) [])
