@@ -4,3 +4,7 @@ pub mod WorkFacts
 pub mod SeenFacts
 pub mod OtherFacts
 pub mod TableFacts
+pub mod ListFacts
+pub mod EndFacts
+pub mod GuardedFacts
+pub mod RefinedFacts

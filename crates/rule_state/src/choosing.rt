@@ -45,7 +45,7 @@ impl<'a> RuleState<'a> {
 
     /// One builtin, where an expression is its path, and the type at hand otherwise.
     pub fn builtin_or(&mut self, found: Option<&Use>) -> Result<(), AllocError>
-        ensures { OnOk result (work_of self.new ≡ valued (builtin_or_term (option_map (λ u. meaning_of u.now) found) (work_of self.old).value) (work_of self.old)) }
+        ensures { OnOk result (work_of self.new ≡ valued (builtin_or_term (option_map (λ u. meaning_of u.now) found.entry) (work_of self.old).value) (work_of self.old)) }
     {
         match found {
             Some(Use::Builtin(path)) => {
