@@ -14,7 +14,7 @@ use Rattle.rule_state.specs.Work.{Work}
 use Rattle.rule_state.specs.Moves.{kept_map, restored, list_begun, ends_begun, end_added}
 use Rattle.rule_state.specs.Listed.{used}
 use Rattle.rule_state.specs.Branches.{ends_joined}
-use Rattle.type_infer.specs.Steps.{with_expr, with_kind, each_choice, each_arm, with_block, with_stat}
+use Rattle.type_infer.specs.Steps.{with_expr, with_kind, each_choice, each_arm, at_last, with_block, with_stat}
 
 -- the map behind the conditions that came out false
 abbrev map_behind : Rules → TypeMap → Choices → TypeMap
@@ -121,11 +121,6 @@ each_arm_branched rules (more_arms cond body rest) maps ends map seen work =
     ∙ ap (λ (ms : List TypeMap). branched ms ends (behind_arms rules map' rest) (((seen ++ a) ++ b) ++ seen_in_arms rules map' rest) work) (append_assoc maps (one ∷ []) (ends_of rules map' rest))
     ∙ ap (λ (ss : List Seen). branched (maps ++ (one ∷ ends_of rules map' rest)) ends (behind_arms rules map' rest) ss work)
         (ap (λ (ss : List Seen). ss ++ seen_in_arms rules map' rest) (append_assoc seen a b) ∙ append_assoc seen (a ++ b) (seen_in_arms rules map' rest))
-
--- the block behind `else`, or nothing
-abbrev pub at_last : Rules → MaybeBlock → Work → Work
-at_last rules no_block work = work
-at_last rules (a_block body) work = with_block rules body work
 
 last_is : (rules : Rules) (last : MaybeBlock) (work : Work)
     → at_last rules last work ≡ record work { map = end_of_last rules work.map last; seen = work.seen ++ seen_last rules work.map last }

@@ -3,7 +3,7 @@ use Rattle.std.proofs.Common.{◌≡◌, ℕ, Bool, true, false, List, [], ◌�
 use Rattle.std.specs.Prelude.{not}
 use Rattle.luau_tree.specs.declared.position.Span.{Span}
 use Rattle.luau_tree.specs.declared.names.BinOp.{BinOp}
-use Rattle.luau_tree.specs.declared.names.BinOp.TheVariants.{Or, And}
+use Rattle.luau_tree.specs.declared.names.BinOp.TheVariants.{Or, And, Less, Greater, LessEqual, GreaterEqual, NotEqual, Equal, Concat, Add, Sub, Mul, Div, FloorDiv, Mod, Pow}
 use Rattle.luau_tree.specs.declared.names.UnOp.{UnOp}
 use Rattle.luau_tree.specs.Tree.{Expr, the_expr, Exprs, ExprKind, NameExpr, FunctionExpr, Interp, Body, Index, At, Call, Method, Paren, Unary, Binary, Assert, TypeSyntax}
 use Rattle.type_arena.specs.Term.{Term}
@@ -86,3 +86,31 @@ name_target_form rules id span name work =
     ap (λ (seen : List Seen). record work { value = type_of_target rules work.map e; map = after rules work.map e; seen = seen })
     (ap (λ (ss : List Seen). retyped_at (type_of_target rules work.map e) (length work.seen) ss) (sym (append-nil (work.seen ++ SeenExpr id work.value (not work.map.dead) ∷ [])))
     ∙ retyped_behind (type_of_target rules work.map e) work.seen (SeenExpr id work.value (not work.map.dead)) [])
+
+pub assert_form : (rules : Rules) (id : ℕ) (e : Expr) (syntax : TypeSyntax) (work : Work) → restored (with_expr rules e (kept_map work)) ≡ with_kind rules id (Assert e syntax) work
+assert_form rules id e syntax work = refl
+
+pub binary_form : (rules : Rules) (id : ℕ) (op : BinOp) (left right : Expr) (work : Work) → (op ≡ And → ⊥) → (op ≡ Or → ⊥)
+    → restored (made (binary_type op) (with_expr rules right (put_aside (with_expr rules left (kept_map work))))) ≡ with_kind rules id (Binary op left right) work
+binary_form rules id And left right work not_and not_or = absurd (not_and refl)
+binary_form rules id Or left right work not_and not_or = absurd (not_or refl)
+binary_form rules id Less left right work not_and not_or = seen_both work _ (seen_expr rules work.map left) _
+binary_form rules id Greater left right work not_and not_or = seen_both work _ (seen_expr rules work.map left) _
+binary_form rules id LessEqual left right work not_and not_or = seen_both work _ (seen_expr rules work.map left) _
+binary_form rules id GreaterEqual left right work not_and not_or = seen_both work _ (seen_expr rules work.map left) _
+binary_form rules id NotEqual left right work not_and not_or = seen_both work _ (seen_expr rules work.map left) _
+binary_form rules id Equal left right work not_and not_or = seen_both work _ (seen_expr rules work.map left) _
+binary_form rules id Concat left right work not_and not_or = seen_both work _ (seen_expr rules work.map left) _
+binary_form rules id Add left right work not_and not_or = seen_both work _ (seen_expr rules work.map left) _
+binary_form rules id Sub left right work not_and not_or = seen_both work _ (seen_expr rules work.map left) _
+binary_form rules id Mul left right work not_and not_or = seen_both work _ (seen_expr rules work.map left) _
+binary_form rules id Div left right work not_and not_or = seen_both work _ (seen_expr rules work.map left) _
+binary_form rules id FloorDiv left right work not_and not_or = seen_both work _ (seen_expr rules work.map left) _
+binary_form rules id Mod left right work not_and not_or = seen_both work _ (seen_expr rules work.map left) _
+binary_form rules id Pow left right work not_and not_or = seen_both work _ (seen_expr rules work.map left) _
+
+pub call_at : (rules : Rules) (e : Expr) (id : ℕ) (span : Span) (callee : Expr) (args : Exprs) (work : Work) → e ≡ the_expr id span (Call callee args)
+    → called_at rules e (restored (used (λ types value. first_or_never types) (with_values rules args (put_aside (with_expr rules callee (kept_map work)))))) ≡ with_kind rules id (Call callee args) work
+call_at rules e id span callee args work is =
+    ap (λ (x : Expr). called_at rules x (restored (used (λ types value. first_or_never types) (with_values rules args (put_aside (with_expr rules callee (kept_map work))))))) is
+    ∙ call_form rules id span callee args work

@@ -1,12 +1,12 @@
 -- What each form of a statement is made of.
-use Rattle.std.proofs.Common.{◌≡◌, ℕ, Bool, true, false, List, [], ◌∷◌, ◌++◌, refl, sym, ap, ◌∙◌, append_assoc, append-nil}
+use Rattle.std.proofs.Common.{◌≡◌, subst, ℕ, Bool, true, false, List, [], ◌∷◌, ◌++◌, refl, sym, ap, ◌∙◌, append_assoc, append-nil}
 use Rattle.std.specs.Prelude.{Option, Some, None, not}
 use Rattle.luau_tree.specs.declared.position.Span.{Span}
 use Rattle.luau_tree.specs.declared.names.BinOp.{BinOp}
-use Rattle.luau_tree.specs.Tree.{Block, no_stats, more_stats, StatKind, the_stat, Compound, CallStat, Do, While, Repeat, NumFor, GenFor, FunctionStat, LocalFunction, TypeAlias, TypeFunction, Return, Break, Continue, Expr, Exprs, MaybeExpr, no_expr, an_expr, Body, the_body, Bind, Binds, Gens, Varargs, MaybeType, TypeSyntax}
+use Rattle.luau_tree.specs.Tree.{Block, no_stats, more_stats, Stat, StatKind, the_stat, Compound, CallStat, Do, While, Repeat, NumFor, GenFor, FunctionStat, LocalFunction, TypeAlias, TypeFunction, Return, Break, Continue, Expr, Exprs, MaybeExpr, no_expr, an_expr, Body, the_body, Bind, Binds, Gens, Varargs, MaybeType, TypeSyntax}
 use Rattle.type_normal.specs.Kinds.{number_type}
 use Rattle.report_rules.specs.Rules.{Rules}
-use Rattle.report_rules.specs.Effects.{target_of, function_target, locals_of_binds}
+use Rattle.report_rules.specs.Effects.{Target, target_of, function_target, locals_of_binds}
 use Rattle.report_rules.specs.TypeMap.{TypeMap, ended, body_map}
 use Rattle.report_rules.specs.Forward.{binary_type, literal_type, after, after_list}
 use Rattle.report_rules.specs.After.{after_kind, after_stat, while_map, repeat_map, number_map, iteration_map, after_bounds}
@@ -101,3 +101,45 @@ pub still_form : (rules : Rules) (span : Span) (kind : StatKind) (work : Work) �
     → record work { map = after_kind rules work.map span kind } ≡ with_stat rules (the_stat span kind) work
 still_form rules span kind work none =
     ap (λ (ss : List Seen). record work { map = after_kind rules work.map span kind; seen = ss }) (sym (append-nil work.seen) ∙ ap (λ (ss : List Seen). work.seen ++ ss) (sym none))
+
+-- ## The same, where a statement is known by its form, or a target by what it is
+
+pub while_at : (rules : Rules) (s : Stat) (span : Span) (cond : Expr) (body : Block) (work : Work) → s ≡ the_stat span (While cond body)
+    → restored (with_block rules body (decided rules cond true (passed rules cond (kept_map (headed_by rules s work))))) ≡ with_stat rules s work
+while_at rules s span cond body work is =
+    subst (λ (x : Stat). restored (with_block rules body (decided rules cond true (passed rules cond (kept_map (headed_by rules x work))))) ≡ with_stat rules x work) (sym is) (while_form rules span cond body work)
+
+pub repeat_at : (rules : Rules) (s : Stat) (span : Span) (body : Block) (cond : Expr) (work : Work) → s ≡ the_stat span (Repeat body cond)
+    → restored (passed rules cond (kept_map (restored (with_block rules body (kept_map (headed_by rules s work)))))) ≡ with_stat rules s work
+repeat_at rules s span body cond work is =
+    subst (λ (x : Stat). restored (passed rules cond (kept_map (restored (with_block rules body (kept_map (headed_by rules x work)))))) ≡ with_stat rules x work) (sym is) (repeat_form rules span body cond work)
+
+pub number_at : (rules : Rules) (s : Stat) (span : Span) (bind : Bind) (from to : Expr) (body : Block) (work : Work) → s ≡ the_stat span (NumFor bind from to no_expr body)
+    → taken (restored (with_block rules body (set_bind rules bind (valued number_type (kept_map (headed_by rules s (with_expr rules to (with_expr rules from (put_aside work))))))))) ≡ with_stat rules s work
+number_at rules s span bind from to body work is =
+    subst (λ (x : Stat). taken (restored (with_block rules body (set_bind rules bind (valued number_type (kept_map (headed_by rules x (with_expr rules to (with_expr rules from (put_aside work))))))))) ≡ with_stat rules x work) (sym is) (number_form rules span bind from to body work)
+
+pub stepped_at : (rules : Rules) (s : Stat) (span : Span) (bind : Bind) (from to by : Expr) (body : Block) (work : Work) → s ≡ the_stat span (NumFor bind from to (an_expr by) body)
+    → taken (restored (with_block rules body (set_bind rules bind (valued number_type (kept_map (headed_by rules s (with_expr rules by (with_expr rules to (with_expr rules from (put_aside work)))))))))) ≡ with_stat rules s work
+stepped_at rules s span bind from to by body work is =
+    subst (λ (x : Stat). taken (restored (with_block rules body (set_bind rules bind (valued number_type (kept_map (headed_by rules x (with_expr rules by (with_expr rules to (with_expr rules from (put_aside work)))))))))) ≡ with_stat rules x work) (sym is) (stepped_form rules span bind from to by body work)
+
+pub iteration_at : (rules : Rules) (s : Stat) (span : Span) (binds : Binds) (values : Exprs) (body : Block) (work : Work) → s ≡ the_stat span (GenFor binds values body)
+    → restored (with_block rules body (kept_map (headed_by rules s (unlisted (with_values rules values work))))) ≡ with_stat rules s work
+iteration_at rules s span binds values body work is =
+    subst (λ (x : Stat). restored (with_block rules body (kept_map (headed_by rules x (unlisted (with_values rules values work))))) ≡ with_stat rules x work) (sym is) (iteration_form rules span binds values body work)
+
+pub compound_at : (rules : Rules) (written : Target) (span : Span) (target : Expr) (op : BinOp) (e : Expr) (work : Work) → written ≡ target_of rules target
+    → taken (write rules written (made (binary_type op) (with_expr rules e (put_aside (with_target rules target (put_aside work)))))) ≡ with_stat rules (the_stat span (Compound target op e)) work
+compound_at rules written span target op e work is =
+    ap (λ (x : Target). taken (write rules x (made (binary_type op) (with_expr rules e (put_aside (with_target rules target (put_aside work))))))) is ∙ compound_form rules span target op e work
+
+pub function_at : (rules : Rules) (written : Target) (span : Span) (path : Expr) (body : Body) (work : Work) → written ≡ function_target rules path None
+    → taken (write rules written (valued (literal_type rules body) (with_body rules body (with_target rules path (put_aside work))))) ≡ with_stat rules (the_stat span (FunctionStat path None body)) work
+function_at rules written span path body work is =
+    ap (λ (x : Target). taken (write rules x (valued (literal_type rules body) (with_body rules body (with_target rules path (put_aside work)))))) is ∙ function_form rules span path body work
+
+pub method_at : (rules : Rules) (written : Target) (span : Span) (path : Expr) (name : List ℕ) (body : Body) (work : Work) → written ≡ function_target rules path (Some name)
+    → taken (write rules written (valued (literal_type rules body) (with_body rules body (with_expr rules path (put_aside work))))) ≡ with_stat rules (the_stat span (FunctionStat path (Some name) body)) work
+method_at rules written span path name body work is =
+    ap (λ (x : Target). taken (write rules x (valued (literal_type rules body) (with_body rules body (with_expr rules path (put_aside work)))))) is ∙ method_form rules span path name body work

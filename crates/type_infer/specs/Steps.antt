@@ -1,6 +1,6 @@
 -- What each part of a module makes of what is at hand. A part that is no expression leaves the type at hand as it is.
 use Rattle.std.specs.Prelude.{ℕ, Bool, true, false, not, ◌||◌, List, [], ◌∷◌, ◌++◌, Option, Some, None, if◌then◌else◌}
-use Rattle.luau_tree.specs.Tree.{Block, no_stats, more_stats, Stat, Arms, no_arms, more_arms, Expr, the_expr, Exprs, no_exprs, more_exprs, ExprKind, NameExpr, StrExpr, Choices, no_choices, more_choices, Item, Field, Keyed, Plain, Items, no_items, more_items, Body, Bind, Binds, no_binds, more_binds}
+use Rattle.luau_tree.specs.Tree.{Block, no_stats, more_stats, Stat, Arms, no_arms, more_arms, MaybeBlock, no_block, a_block, Expr, the_expr, Exprs, no_exprs, more_exprs, ExprKind, NameExpr, StrExpr, Choices, no_choices, more_choices, Item, Field, Keyed, Plain, Items, no_items, more_items, Body, Bind, Binds, no_binds, more_binds}
 use Rattle.report_rules.specs.Rules.{Rules, use_of}
 use Rattle.report_rules.specs.Effects.{Target, effects, effects_of_item, effects_of_items, any_effects, local_of_bind}
 use Rattle.report_rules.specs.TypeMap.{set, refine, head, body_map, stored, disturbed, written}
@@ -170,6 +170,11 @@ with_arm rules cond body work =
 abbrev pub each_arm : Rules → Arms → Work → Work
 each_arm rules no_arms work = work
 each_arm rules (more_arms cond body rest) work = each_arm rules rest (with_arm rules cond body work)
+
+-- the block behind `else`, or nothing
+abbrev pub at_last : Rules → MaybeBlock → Work → Work
+at_last rules no_block work = work
+at_last rules (a_block body) work = with_block rules body work
 
 -- a local gets the type at hand
 abbrev pub set_bind : Rules → Bind → Work → Work

@@ -2,5 +2,8 @@
 //! places are live.
 #![tactic(auto)]
 
+mod exprs;
+mod lists;
 mod plan;
+mod stats;
 mod task;

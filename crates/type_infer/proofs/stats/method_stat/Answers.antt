@@ -1,0 +1,9 @@
+use Rattle.std.proofs.Common.{ap, ◌∙◌}
+use Rattle.std.proofs.lemmas.Result.{on_ok_weaker}
+use Rattle.luau_tree.specs.View.{view_body, view_expr}
+use Rattle.type_infer.specs.Run.{run}
+use Rattle.type_infer.proofs.StatForms.{method_at}
+use Rattle.type_infer.proofs.stats.method_stat.Goals as goal
+
+pub returns : goal.returns
+returns c = on_ok_weaker c.plan.result (λ made rules span name work is. made rules work ∙ ap (run rules c.args.tasks.now.items) (method_at rules _ span (view_expr c.args.path.now) name (view_body c.args.body.now) work is)) c.plan.ensures

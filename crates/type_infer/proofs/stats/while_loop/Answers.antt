@@ -1,0 +1,9 @@
+use Rattle.std.proofs.Common.{ap, ◌∙◌}
+use Rattle.std.proofs.lemmas.Result.{on_ok_weaker}
+use Rattle.luau_tree.specs.View.{view_block, view_expr, view_stat}
+use Rattle.type_infer.specs.Run.{run}
+use Rattle.type_infer.proofs.StatForms.{while_at}
+use Rattle.type_infer.proofs.stats.while_loop.Goals as goal
+
+pub returns : goal.returns
+returns c = on_ok_weaker c.plan.result (λ made rules span work is. made rules work ∙ ap (run rules c.args.tasks.now.items) (while_at rules (view_stat c.args.s.now) span (view_expr c.args.cond.now) (view_block c.args.body.now) work is)) c.plan.ensures
