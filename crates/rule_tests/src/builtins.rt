@@ -9,8 +9,18 @@ use type_decl::{Sig, SigTable, standard};
 type Case = (&'static str, &'static str, &'static str, &'static str);
 
 const NUMBERS: [Case; 11] = [
-    ("CQ", "math.abs math.acos math.asin math.atan math.ceil math.cos math.cosh math.deg math.exp math.floor math.log10 math.rad math.round math.sign math.sin math.sinh math.sqrt math.tan math.tanh", "n", "n"),
-    ("CQ", "math.atan2 math.fmod math.ldexp math.pow", "n, n", "n"),
+    (
+        "CQ",
+        "math.abs math.acos math.asin math.atan math.ceil math.cos math.cosh math.deg math.exp math.floor math.log10 math.rad math.round math.sign math.sin math.sinh math.sqrt math.tan math.tanh",
+        "n",
+        "n",
+    ),
+    (
+        "CQ",
+        "math.atan2 math.fmod math.ldexp math.pow",
+        "n, n",
+        "n",
+    ),
     ("CQ", "math.max math.min", "n, ...n", "n"),
     ("CQ", "math.log", "n, n?", "n"),
     ("CQ", "math.clamp", "n, n, n", "n"),
@@ -18,7 +28,12 @@ const NUMBERS: [Case; 11] = [
     ("CQ", "math.modf math.frexp", "n", "n, n"),
     ("CQ", "bit32.band bit32.bor bit32.bxor", "...n", "n"),
     ("CQ", "bit32.bnot", "n", "n"),
-    ("CQ", "bit32.lshift bit32.rshift bit32.arshift bit32.lrotate bit32.rrotate", "n, n", "n"),
+    (
+        "CQ",
+        "bit32.lshift bit32.rshift bit32.arshift bit32.lrotate bit32.rrotate",
+        "n, n",
+        "n",
+    ),
     ("CQ", "os.clock", "", "n"),
 ];
 
@@ -184,7 +199,17 @@ fn all_names_are_declared_as_the_table_says(rt: HostRuntime) -> Result<(), Fail>
 fn names_that_are_not_declared(rt: HostRuntime) -> Result<(), Fail> {
     let table = standard(rt.alloc())?;
     assert!(rt; table.get(b"math.abs").is_some());
-    for name in ["math.none", "math", "math.", "math.ab", "math.abs.x", "Math.abs", "require", "g", ""] {
+    for name in [
+        "math.none",
+        "math",
+        "math.",
+        "math.ab",
+        "math.abs.x",
+        "Math.abs",
+        "require",
+        "g",
+        "",
+    ] {
         assert!(rt; table.get(name.as_bytes()).is_none(), "{name}");
     }
     Ok(())

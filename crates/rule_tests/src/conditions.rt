@@ -134,12 +134,7 @@ const NOT_AND: [Case; 15] = [
         "nil false or not nil false or not",
         "unknown unknown",
     ),
-    (
-        "y == 'a' and x == nil",
-        "xy",
-        "nil 'a",
-        "unknown unknown",
-    ),
+    ("y == 'a' and x == nil", "xy", "nil 'a", "unknown unknown"),
     ("x and x == \"a\"", "x", "'a", "'a not"),
     ("x == 1 and x == 2", "x", "number", "unknown"),
     ("x == nil and x == true", "x", "never", "unknown"),
@@ -161,12 +156,7 @@ const OR_AND_NESTED: [Case; 15] = [
         "unknown unknown",
         "nil false or nil false or",
     ),
-    (
-        "x == nil or x == \"a\"",
-        "x",
-        "nil 'a or",
-        "nil 'a or not",
-    ),
+    ("x == nil or x == \"a\"", "x", "nil 'a or", "nil 'a or not"),
     (
         "x == nil or x == false",
         "x",
@@ -180,7 +170,12 @@ const OR_AND_NESTED: [Case; 15] = [
         "string number or not",
     ),
     ("x or g()", "x", "unknown", "nil false or"),
-    ("x == 1 or y == nil", "xy", "unknown unknown", "unknown nil not"),
+    (
+        "x == 1 or y == nil",
+        "xy",
+        "unknown unknown",
+        "unknown nil not",
+    ),
     (
         "not (x and y)",
         "xy",
@@ -265,7 +260,12 @@ const OF_NAMED: [Case; 2] = [
 
 const OF_OTHERS: [Case; 2] = [
     ("z(x) == \"string\"", "", "", ""),
-    ("z(x) == \"string\" and y", "y", "nil false or not", "unknown"),
+    (
+        "z(x) == \"string\" and y",
+        "y",
+        "nil false or not",
+        "unknown",
+    ),
 ];
 
 const OF_SHADOWED: [Case; 3] = [
@@ -313,11 +313,7 @@ fn says(
 }
 
 // The first case of which a condition says something else, where a text stands before it.
-fn first_other(
-    alloc: Global,
-    before: &str,
-    cases: &[Case],
-) -> Result<Option<&'static str>, Fail> {
+fn first_other(alloc: Global, before: &str, cases: &[Case]) -> Result<Option<&'static str>, Fail> {
     let table = standard(alloc)?;
     let mut arena = over(alloc, shelf(&[]), 0)?;
     for (cond, locals, when_true, when_false) in cases {

@@ -99,7 +99,10 @@ const UNIONS: [Form; 24] = [
     ("never | nil", "nil"),
     ("string | T", "unknown"),
     ("{x: string} | {x: number}", "string .x number .x or"),
-    ("{x: string} | {y: string} | nil", "string .x string .y or nil or"),
+    (
+        "{x: string} | {y: string} | nil",
+        "string .x string .y or nil or",
+    ),
     ("{x: string} | {}", "string .x table or"),
     ("{x: string} | {x: string}", "string .x"),
     ("{x: string | nil}", "string nil or .x"),
@@ -128,7 +131,10 @@ const MEETS: [Form; 18] = [
         "({x: string} | {y: string}) & {z: nil}",
         "string .x nil .z and string .y nil .z and or",
     ),
-    ("({x: string} | {y: string}) & {x: nil}", "nil .x string .y and"),
+    (
+        "({x: string} | {y: string}) & {x: nil}",
+        "nil .x string .y and",
+    ),
     ("{x: {y: nil?} & {y: nil}}", "nil .y .x"),
     ("(() -> ()) & (number) -> number", "function"),
 ];
@@ -146,7 +152,11 @@ const BY_ALIASES: [Case; 20] = [
     ("type T = string type T = number", "T", "number"),
     ("type T = string type T = T?", "T", "string nil or"),
     ("type A = B type B = A", "B", "unknown"),
-    ("type A = {x: string} type B = {y: nil}", "A & B", "string .x nil .y and"),
+    (
+        "type A = {x: string} type B = {y: nil}",
+        "A & B",
+        "string .x nil .y and",
+    ),
     ("type T = \"a\" | \"b\"", "T & \"a\"", "'a"),
     ("type T = {x: never}", "T?", "nil"),
     ("type T = string", "T<>", "string"),
@@ -183,7 +193,11 @@ const PARAMETERS: [Case; 14] = [
     ("type T = string", "(a: T, b: T?)", "string string nil or"),
     ("type T = string", "<T>(a: T, b: string)", "unknown string"),
     ("type T = string", "<U>(a: T, b: U)", "string unknown"),
-    ("type T = string type U = {x: T}", "<T>(a: T, b: U)", "unknown string .x"),
+    (
+        "type T = string type U = {x: T}",
+        "<T>(a: T, b: U)",
+        "unknown string .x",
+    ),
     ("type T<U> = string", "(a: T)", "unknown"),
     ("", "<unknown>(a: unknown)", "unknown"),
 ];
