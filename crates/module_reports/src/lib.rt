@@ -2,9 +2,13 @@
 #![tactic(auto)]
 
 mod kind;
+mod order;
 mod report;
+mod sorting;
+mod told;
 mod wording;
 
 pub use kind::ReportKind;
 pub use report::Report;
+pub use sorting::sort_reports;
 pub use wording::message;
