@@ -1,6 +1,6 @@
 -- The checked modules of a planned folder are a folder.
-use Rattle.std.proofs.Common.{◌≡◌, ℕ, zero, suc, ◌+◌, ◌<◌, true, List, [], ◌∷◌, map, refl, ap, sym, ◌∙◌, subst, arith}
-use Rattle.std.specs.Prelude.{Option, Some, None, slice_get}
+use Rattle.std.proofs.Common.{◌≡◌, ℕ, suc, ◌+◌, ◌<◌, true, List, [], ◌∷◌, map, refl, ap, sym, ◌∙◌, subst, arith}
+use Rattle.std.specs.Prelude.{Option, Some, slice_get}
 use Rattle.std.specs.Option.{option_map_or}
 use Rattle.std.specs.List.{AllByRecursion}
 use Rattle.luau_tree.specs.Tree.{Block}
@@ -8,13 +8,11 @@ use Rattle.luau_scope.specs.Locals.{requires_of}
 use Rattle.luau_scope.specs.Refusals.{refusal_of}
 use Rattle.luau_run.specs.Certain.{Certain}
 use Rattle.type_decl.specs.Signatures.{Signature}
-use Rattle.report_rules.specs.Rules.{Rules}
 use Rattle.report_rules.specs.Program.{RequireEarlier}
 use Rattle.report_rules.specs.Reports.{places_of_program}
 use Rattle.reports_certain.proofs.Sound.{all_certain}
 use Rattle.tree_readings.specs.Apart.{StandsApart}
 use Rattle.tree_readings.specs.Paths.{are_paths}
-use Rattle.module_graph.specs.declared.needs.Fate.{Fate}
 use Rattle.module_graph.specs.declared.needs.Fate.TheVariants.{Checked}
 use Rattle.module_graph.specs.declared.needs.ModuleNeeds.{ModuleNeeds}
 use Rattle.module_graph.specs.declared.needs.Plan.{Plan}
@@ -24,11 +22,11 @@ use Rattle.module_graph.proofs.Graphs.{IsGraph-nodes}
 use Rattle.module_graph.proofs.Levelling.{checked-requires, listed-at, checked-listed}
 use Rattle.module_graph.proofs.Lists.{Contains-from_get, get-from_contains}
 use Rattle.reading_fits.specs.OfFolder.{paths_of}
-use Rattle.reading_fits.specs.FolderAnalysis.{TreeModule, rules_alone, rules_in, analysis_of, IsAccepted, IsFolder}
+use Rattle.reading_fits.specs.FolderAnalysis.{rules_alone, rules_in, analysis_of, IsAccepted, IsFolder}
 use Rattle.reading_fits.proofs.FolderAnalysis.{analysis_fits}
 use Rattle.folder_plan.specs.Files.{File, all_needs}
 use Rattle.folder_plan.specs.Accepted.{IsAcceptedTree, AreAccepted}
-use Rattle.folder_plan.specs.Order.{IsPlanOf, order_of, block_of, module_with, no_file, file_at, modules_from, modules_of, place_of}
+use Rattle.folder_plan.specs.Order.{IsPlanOf, order_of, block_of, module_with, no_file, file_at, modules_from, modules_of}
 use Rattle.folder_plan.proofs.Places.{lower_is_earlier}
 use Rattle.folder_plan.proofs.Homes.{homes_are_distinct}
 use Rattle.folder_plan.proofs.Found.{joined_from, one_of_all, checked_tree, site_requires, required_from, led_from}
@@ -82,12 +80,15 @@ module _ (table : List (List ℕ × Signature)) (files : List File) (plan : Plan
       let at = get-from_contains listed.0 led.0 listed.2 in
       let less : 0 + below.0 < level.0 = (let l : below.0 < level.0 = below.3 in omega (arith, l)) in
       let place = lower_is_earlier IsAt one_level plan.levels 0
-      (λ n j f list in_levels in_list. checked-listed plan.fates plan.levels is.levels f n list in_levels (Contains-from_get list j f in_list))
+      (λ n j f list in_levels in_list. at_base f n (checked-listed plan.fates plan.levels is.levels f n list in_levels (Contains-from_get list j f in_list)))
       led.0 position below.0 level.0 at.0 listed.0 listed.1 at.1 level.1 less k e in
       let same : place.0 ≡ other = some_same place.0 other (sym place.1 ∙ led.2) in
       let earlier : place.0 < k = place.2 in
       omega (arith, same, earlier)
     where
+      at_base : (f n : ℕ) → IsAt f n → IsAt f (0 + n)
+      at_base f n a = subst (λ (i : ℕ). IsAt f i) (omega arith) a
+
       some_same : (a b : ℕ) → Some a ≡ Some b → a ≡ b
       some_same a b h = cc
 

@@ -1,5 +1,5 @@
 -- What is found of a checked file: its tree, and the modules that its requires mean.
-use Rattle.std.proofs.Common.{◌≡◌, ℕ, zero, suc, ◌<◌, Bool, true, false, List, [], ◌∷◌, map, length, refl, ap, sym, ◌∙◌, subst, arith, inl, inr}
+use Rattle.std.proofs.Common.{◌≡◌, ℕ, zero, suc, ◌<◌, Bool, true, false, List, [], ◌∷◌, map, length, refl, ap, sym, ◌∙◌, subst, arith}
 use Rattle.std.specs.Prelude.{Option, Some, None, option_map, ◌==◌, slice_get, Contains, if◌then◌else◌}
 use Rattle.std.specs.Option.{option_and_then}
 use Rattle.std.specs.List.{AllByRecursion, find}
@@ -15,7 +15,7 @@ use Rattle.module_graph.specs.declared.node.Call.{Call}
 use Rattle.module_graph.specs.declared.node.Node.{Node}
 use Rattle.module_graph.specs.Names.{meant_file}
 use Rattle.module_graph.specs.Requires.{call_of, node_of, nodes_of, refused_at, calls_at, Requires}
-use Rattle.module_graph.specs.Fates.{AreFates, IsFate, IsRefused, already}
+use Rattle.module_graph.specs.Fates.{AreFates, already}
 use Rattle.module_graph.proofs.Lists.{Contains-from_get, get-below, calls_at-get}
 use Rattle.module_reading.specs.Readings.{required_at}
 use Rattle.folder_plan.specs.Files.{File, is_refused, need_of, needs_in, needs_of, all_needs}

@@ -1,9 +1,8 @@
 -- Files of lower levels come earlier.
-use Rattle.std.proofs.Common.{◌≡◌, ℕ, zero, suc, ◌+◌, ◌<◌, ◌≤◌, Bool, true, false, List, [], ◌∷◌, ◌++◌, length, refl, ap, sym, subst, ◌∙◌, arith, inl, inr}
-use Rattle.std.specs.Prelude.{Option, Some, None, option_map, ◌==◌, slice_get, Contains, if◌then◌else◌}
+use Rattle.std.proofs.Common.{◌≡◌, ℕ, zero, suc, ◌+◌, ◌<◌, Bool, true, false, List, [], ◌∷◌, ◌++◌, length, refl, ap, subst, ◌∙◌, arith, inl, inr}
+use Rattle.std.specs.Prelude.{Option, Some, option_map, ◌==◌, slice_get, if◌then◌else◌}
 use Rattle.std.proofs.lemmas.Bool.{eqb-true, eq-eqb}
-use Rattle.std.proofs.lemmas.Option.{slice_get_within}
-use Rattle.module_graph.proofs.Lists.{slice_get-append_cases, Contains-from_get, get-from_contains}
+use Rattle.module_graph.proofs.Lists.{slice_get-append_cases}
 use Rattle.folder_plan.specs.Order.{joined, place_of}
 
 -- a file of a list has a place in it, and the same place where more stands behind
