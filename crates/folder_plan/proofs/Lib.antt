@@ -1,0 +1,4 @@
+pub mod Places
+pub mod Homes
+pub mod Found
+pub mod Folder
