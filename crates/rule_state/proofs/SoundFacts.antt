@@ -10,7 +10,7 @@ use Rattle.local_types.specs.Growing.{HaveHomes, AreWithin, IsMadeOf, Grows}
 use Rattle.local_types.specs.declared.types.LocalTypes.{LocalTypes}
 use Rattle.local_types.proofs.GrowFacts.{type_stands, map_stands, grows_less, grows_then}
 use Rattle.rule_state.specs.Sound.{Stands, types_in, StandsSeen, StartsWithin, IsConfined, IsSound}
-use Rattle.rule_state.specs.declared.point.Point.{Point}
+use Rattle.local_types.specs.declared.node.Point.{Point}
 use Rattle.rule_state.specs.declared.point.Seen.{Seen}
 use Rattle.rule_state.specs.declared.state.RuleState.{RuleState}
 

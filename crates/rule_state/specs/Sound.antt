@@ -2,14 +2,16 @@
 use Rattle.std.specs.Prelude.{◌≡◌, ◌≢◌, ℕ, Bool, List, [], ◌∷◌, Some, All, IsTrue}
 use Rattle.type_arena.specs.Arena.{home_of, store_of}
 use Rattle.type_arena.specs.Homes.{literal_homes}
-use Rattle.type_arena.specs.Store.{node_at, has, refs_of}
+use Rattle.type_arena.specs.Store.{Keeps, node_at, has, refs_of}
 use Rattle.type_arena.specs.declared.arena.Arena.{Arena}
 use Rattle.type_arena.specs.declared.node.Node.{Node}
 use Rattle.type_arena.specs.declared.node.TypeRef.{TypeRef}
+use Rattle.type_decl.specs.Tables.{alone, refs_in}
+use Rattle.type_decl.specs.declared.table.SigTable.{SigTable}
 use Rattle.local_types.specs.Entries.{arena_of, arenas_of, IsMap}
 use Rattle.local_types.specs.Growing.{HaveHomes, AreWithin, IsMadeOf}
 use Rattle.local_types.specs.declared.types.LocalTypes.{LocalTypes}
-use Rattle.rule_state.specs.declared.point.Point.{Point}
+use Rattle.local_types.specs.declared.node.Point.{Point}
 use Rattle.rule_state.specs.declared.point.Seen.{Seen}
 use Rattle.rule_state.specs.declared.point.Seen.TheVariants.{Expr, Body}
 
@@ -35,6 +37,11 @@ pub record StartsWithin (test : ℕ → Bool) (arena : Arena) : Type 0 where
 -- types lead to no home but their own, and those to which the arenas below and what came from elsewhere lead
 abbrev pub IsConfined : LocalTypes → List TypeRef → Type 0
 IsConfined types outside = (test : ℕ → Bool) → StartsWithin test (arena_of types) → HaveHomes test outside → AreWithin test types
+
+-- the arena of the declared builtins is among those of the types, and the builtins' types stand there
+pub record KnowsTable (types : LocalTypes) (outside : List TypeRef) (table : SigTable) : Type 0 where
+  pub keeps : Keeps (alone table.arena) (arenas_of types)
+  pub stand : All (λ sig. All (Stands types outside) (refs_in sig)) table.sigs
 
 -- all that is at hand stands there
 pub record IsSound (types : LocalTypes) (outside : List TypeRef) (value : TypeRef) (held : List TypeRef) (lists : List (List TypeRef))

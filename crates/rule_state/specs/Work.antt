@@ -9,13 +9,17 @@ use Rattle.local_types.specs.Entries.{type_of, entry_of}
 use Rattle.local_types.specs.declared.types.LocalTypes.{LocalTypes}
 use Rattle.report_rules.specs.Seen.{Seen, SeenExpr, SeenBody}
 use Rattle.report_rules.specs.TypeMap.{TypeMap, no_map}
-use Rattle.rule_state.specs.declared.point.Point.{Point}
+use Rattle.type_decl.specs.Signatures.{Signature}
+use Rattle.type_decl.specs.Tables.{declared_in}
+use Rattle.type_decl.specs.declared.table.SigTable.{SigTable}
+use Rattle.local_types.specs.declared.node.Point.{Point}
 use Rattle.rule_state.specs.declared.point.Seen.{Seen as SeenRef}
 use Rattle.rule_state.specs.declared.point.Seen.TheVariants.{Expr, Body}
 use Rattle.rule_state.specs.declared.state.RuleState.{RuleState}
 
 -- what is at hand: a type, and a map of the locals; what was put aside of both, the last first; lists of types and of maps, the
--- innermost first; what was seen; and the places in that of expressions whose type is still to come, the last first
+-- innermost first; what was seen; the places in that of expressions whose type is still to come, the last first; and the
+-- declared builtins, which stay
 pub record Work : Type 0 where
   pub value : Term
   pub held : List Term
@@ -25,10 +29,15 @@ pub record Work : Type 0 where
   pub ends : List (List TypeMap)
   pub seen : List Seen
   pub pending : List ℕ
+  pub builtins : List (List ℕ × Signature)
 
 -- where nothing is known and nothing was seen
-abbrev pub begun : Work
-begun = record { value = unknown; held = []; lists = []; map = no_map; saved = []; ends = []; seen = []; pending = [] }
+abbrev pub begun : List (List ℕ × Signature) → Work
+begun builtins = record { value = unknown; held = []; lists = []; map = no_map; saved = []; ends = []; seen = []; pending = []; builtins = builtins }
+
+-- the builtins that a table declares, with their signatures
+abbrev pub builtins_in : SigTable → List (List ℕ × Signature)
+builtins_in table = declared_in table.arena table.paths table.sigs
 
 -- a point as a map
 abbrev pub map_of : LocalTypes → Point → TypeMap
@@ -50,6 +59,7 @@ work_of state = record {
   ends = reverse (map (map (map_of state.types)) (map (λ list. list.items) state.ends.items));
   seen = map (seen_of state.types) state.seen.items;
   pending = reverse state.pending.items;
+  builtins = builtins_in state.table.now;
 }
 
 -- what was seen, with another type

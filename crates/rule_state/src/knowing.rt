@@ -7,7 +7,7 @@ ghost use Rattle.type_normal.specs.Kinds.{named_type as named_term};
 ghost use Rattle.rule_state.specs.Moves.{valued, mapped, known_of, set_as};
 ghost use Rattle.rule_state.specs.Work.{work_of};
 
-use crate::point::Point;
+use local_types::Point;
 use crate::state::RuleState;
 use luau_tree::{FnId, LocalId};
 use std::alloc::AllocError;

@@ -4,6 +4,12 @@
 //! how types lie in an arena is no part of them.
 #![tactic(auto)]
 
+mod answers;
+mod calls;
+mod choosing;
+mod conditions;
+mod ends;
+mod guarding;
 mod knowing;
 mod lists;
 mod maps;
@@ -12,7 +18,9 @@ mod operators;
 mod point;
 mod starting;
 mod state;
+mod tables;
 mod values;
 
-pub use point::{Point, Seen};
+pub use answers::Answers;
+pub use point::Seen;
 pub use state::RuleState;

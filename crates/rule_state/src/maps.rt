@@ -5,9 +5,8 @@ ghost use Rattle.report_rules.specs.TypeMap.{ended as ended_map, widened_at};
 ghost use Rattle.rule_state.specs.Moves.{mapped, kept_map, restored, ends_begun, end_added};
 ghost use Rattle.rule_state.specs.Work.{work_of};
 
-use crate::point::Point;
 use crate::state::RuleState;
-use local_types::Change;
+use local_types::{Change, Point};
 use std::alloc::AllocError;
 use type_arena::Label;
 

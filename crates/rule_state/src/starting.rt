@@ -2,28 +2,31 @@
 ghost use Rattle.std.specs.Prelude.{◌≡◌, IfOk};
 ghost use Rattle.type_arena.specs.Arena.{home_of};
 ghost use Rattle.local_types.specs.Entries.{arena_of};
-ghost use Rattle.rule_state.specs.Sound.{IsConfined};
-ghost use Rattle.rule_state.specs.Work.{work_of, begun};
+ghost use Rattle.rule_state.specs.Sound.{IsConfined, KnowsTable};
+ghost use Rattle.rule_state.specs.Work.{work_of, begun, builtins_in};
 
-use crate::point::Point;
+use local_types::Point;
 use crate::state::RuleState;
 use local_types::LocalTypes;
 use std::alloc::{AllocError, Global};
 use type_arena::TypeRef;
+use type_decl::SigTable;
 use type_fields::Plain;
 
 impl<'a> RuleState<'a> {
-    /// Nothing is known and nothing was seen. The types lead to no home but their own, those to which the arenas below lead and
+    /// Nothing is known and nothing was seen. The types of the declared builtins are among those that come from elsewhere. The types lead to no home but their own, those to which the arenas below lead and
     /// those of the types that come from elsewhere.
     pub fn new(
         alloc: Global,
         mut types: LocalTypes<'a>,
         home: u32,
+        table: &'a SigTable,
         outside: Vec<TypeRef>,
     ) -> Result<RuleState<'a>, AllocError>
         requires own { home ≡ home_of (arena_of types) }
         requires confined { IsConfined types outside.items }
-        ensures { IfOk result (λ state. work_of state ≡ begun) }
+        requires known { KnowsTable types outside.items table.now }
+        ensures { IfOk result (λ state. work_of state ≡ begun (builtins_in table.now)) }
     {
         let value = types.plain(alloc, Plain::Unknown)?;
         let map = types.everywhere(value)?;
@@ -32,6 +35,7 @@ impl<'a> RuleState<'a> {
             home,
             types,
             outside,
+            table,
             value,
             held: Vec::new(alloc),
             lists: Vec::new(alloc),

@@ -15,14 +15,14 @@ use Rattle.rule_state.proofs.state.RuleState.add.Goals as goal
 pub invariant_of-self : goal.invariant_of-self
 invariant_of-self c =
     let popped = all_popped (All (Stands c.args.self.now.types c.args.self.now.outside.items)) (λ list. list.items) c.args.self.now.lists.items c.pop.new.self.items c.pop.result c.in-Some.list c.pop.ensures.items c.in-Some.is c.args.self.now.sound.lists_stand in
-    record { at_home = c.args.self.now.at_home; sound = with_lists c.args.self.now.types c.args.self.now.outside.items c.args.self.now.value c.args.self.now.held.items (lists_in c.args.self.now) c.args.self.now.point c.args.self.now.saved.items (ends_in c.args.self.now) c.args.self.now.seen.items (map (λ list. list.items) c.pop.new.self.items) c.args.self.now.sound (popped.0) }
+    record { at_home = c.args.self.now.at_home; known = c.args.self.now.known; sound = with_lists c.args.self.now.types c.args.self.now.outside.items c.args.self.now.value c.args.self.now.held.items (lists_in c.args.self.now) c.args.self.now.point c.args.self.now.saved.items (ends_in c.args.self.now) c.args.self.now.seen.items (map (λ list. list.items) c.pop.new.self.items) c.args.self.now.sound (popped.0) }
 
 pub invariant_of-self-in-Some : goal.invariant_of-self-in-Some
 invariant_of-self-in-Some c =
     let stands = Stands c.args.self.now.types c.args.self.now.outside.items in
     let popped = all_popped (All stands) (λ list. list.items) c.args.self.now.lists.items c.pop.new.self.items c.pop.result c.in-Some.list c.pop.ensures.items c.in-Some.is c.args.self.now.sound.lists_stand in
     let longer : All stands c.push.new.self.items = subst (All stands) (sym c.in_ok-push.ensures.items) (All-push stands c.in-Some.list.items c.args.self.now.value popped.1 c.args.self.now.sound.value_stands) in
-    record { at_home = c.args.self.now.at_home; sound = with_lists c.args.self.now.types c.args.self.now.outside.items c.args.self.now.value c.args.self.now.held.items (lists_in c.args.self.now) c.args.self.now.point c.args.self.now.saved.items (ends_in c.args.self.now) c.args.self.now.seen.items (map (λ list. list.items) c.push-in-Some.new.self.items) c.args.self.now.sound (all_pushed_or_not (All stands) (λ list. list.items) c.pop.new.self.items c.push-in-Some.new.self.items c.push.new.self (is_ok c.push-in-Some.result) c.push-in-Some.ensures.items popped.0 longer) }
+    record { at_home = c.args.self.now.at_home; known = c.args.self.now.known; sound = with_lists c.args.self.now.types c.args.self.now.outside.items c.args.self.now.value c.args.self.now.held.items (lists_in c.args.self.now) c.args.self.now.point c.args.self.now.saved.items (ends_in c.args.self.now) c.args.self.now.seen.items (map (λ list. list.items) c.push-in-Some.new.self.items) c.args.self.now.sound (all_pushed_or_not (All stands) (λ list. list.items) c.pop.new.self.items c.push-in-Some.new.self.items c.push.new.self (is_ok c.push-in-Some.result) c.push-in-Some.ensures.items popped.0 longer) }
 
 pub returns-in_ok-push-2 : goal.returns-in_ok-push-2
 unfolding work_of

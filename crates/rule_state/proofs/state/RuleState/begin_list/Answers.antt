@@ -14,7 +14,7 @@ pub invariant_of-self : goal.invariant_of-self
 invariant_of-self c =
     let stands = Stands c.args.self.now.types c.args.self.now.outside.items in
     let fresh = subst (All stands) (sym c.new.ensures.items) (All-nil stands) in
-    record { at_home = c.args.self.now.at_home; sound = with_lists c.args.self.now.types c.args.self.now.outside.items c.args.self.now.value c.args.self.now.held.items (lists_in c.args.self.now) c.args.self.now.point c.args.self.now.saved.items (ends_in c.args.self.now) c.args.self.now.seen.items (map (λ list. list.items) c.push.new.self.items) c.args.self.now.sound (all_pushed_or_not (All stands) (λ list. list.items) c.args.self.now.lists.items c.push.new.self.items c.new.result (is_ok c.push.result) c.push.ensures.items c.args.self.now.sound.lists_stand fresh) }
+    record { at_home = c.args.self.now.at_home; known = c.args.self.now.known; sound = with_lists c.args.self.now.types c.args.self.now.outside.items c.args.self.now.value c.args.self.now.held.items (lists_in c.args.self.now) c.args.self.now.point c.args.self.now.saved.items (ends_in c.args.self.now) c.args.self.now.seen.items (map (λ list. list.items) c.push.new.self.items) c.args.self.now.sound (all_pushed_or_not (All stands) (λ list. list.items) c.args.self.now.lists.items c.push.new.self.items c.new.result (is_ok c.push.result) c.push.ensures.items c.args.self.now.sound.lists_stand fresh) }
 
 pub returns : goal.returns
 unfolding work_of

@@ -7,18 +7,19 @@ use Rattle.type_normal.specs.Operations.{union}
 use Rattle.rule_state.proofs.SoundFacts.{popped_same, popped_other, both_given}
 use Rattle.rule_state.proofs.StackFacts.{popped_nothing}
 use Rattle.rule_state.proofs.WorkFacts.{work_made}
+use Rattle.rule_state.proofs.TableFacts.{known_then}
 use Rattle.rule_state.proofs.state.RuleState.union_held.Goals as goal
 
 pub invariant_of-self : goal.invariant_of-self
 invariant_of-self c = record {
-  at_home = c.args.self.now.at_home ∙ sym c.union.ensures.grows.home;
+  at_home = c.args.self.now.at_home ∙ sym c.union.ensures.grows.home; known = known_then c.args.self.now c.union.new.self _ c.union.ensures.grows;
   sound = popped_same c.args.self.now c.union.new.self (c.in-Some.held ∷ c.args.self.now.value ∷ []) c.pop.new.self.items c.pop.result c.in-Some.held c.pop.ensures.items c.in-Some.is
       (both_given c.args.self.now c.pop.new.self.items c.pop.result c.in-Some.held c.pop.ensures.items c.in-Some.is) c.union.ensures.grows;
 }
 
 pub invariant_of-self-in-Some : goal.invariant_of-self-in-Some
 invariant_of-self-in-Some c = record {
-  at_home = c.args.self.now.at_home ∙ sym c.union.ensures.grows.home;
+  at_home = c.args.self.now.at_home ∙ sym c.union.ensures.grows.home; known = known_then c.args.self.now c.union.new.self _ c.union.ensures.grows;
   sound = popped_other c.args.self.now c.union.new.self (c.in-Some.held ∷ c.args.self.now.value ∷ []) c.pop.new.self.items c.pop.result c.in-Some.held c.in_ok-at.at c.pop.ensures.items c.in-Some.is
       (both_given c.args.self.now c.pop.new.self.items c.pop.result c.in-Some.held c.pop.ensures.items c.in-Some.is) c.union.ensures.grows c.in_ok-at.ensures.there c.in_ok-at.ensures.made;
 }
