@@ -11,9 +11,10 @@ use Rattle.local_types.specs.Growing.{Grows}
 use Rattle.local_types.specs.declared.node.Point.{Point}
 use Rattle.local_types.specs.declared.types.LocalTypes.{LocalTypes}
 use Rattle.report_rules.specs.TypeMap.{TypeMap, no_maps, union_of, joined}
-use Rattle.rule_state.specs.Branches.{joined_from, ends_joined}
+use Rattle.rule_work.specs.Branches.{joined_from, ends_joined}
 use Rattle.rule_state.specs.Sound.{IsSound}
-use Rattle.rule_state.specs.Work.{Work, builtins_in, map_of, work_of}
+use Rattle.rule_work.specs.Work.{Work}
+use Rattle.rule_state.specs.Work.{builtins_in, map_of, work_of}
 use Rattle.rule_state.specs.declared.state.RuleState.{RuleState}
 use Rattle.rule_state.proofs.SoundFacts.{lists_in, ends_in, with_ends, with_point, sound_on, none_given}
 use Rattle.rule_state.proofs.StackFacts.{popped_list, popped_no_list, all_popped, all_rest}

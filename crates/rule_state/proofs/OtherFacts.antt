@@ -18,7 +18,7 @@ use Rattle.type_normal.specs.Members.{has_member}
 use Rattle.type_normal.specs.Rows.{any_table}
 use Rattle.subtype_check.specs.Below.{is_subset, implies, free_below, each_row, rows_above, below}
 use Rattle.report_rules.specs.Forward.{not_other, both_known, unary_type, binary_type}
-use Rattle.rule_state.specs.Results.{result_term, unary_result_term}
+use Rattle.rule_work.specs.Results.{result_term, unary_result_term}
 
 -- all members are among all
 none_out : {X : Type 0} (cmp : X → X → Ordering) (xs : List X) → list_all (λ x. not (has_member cmp x [])) xs ≡ true

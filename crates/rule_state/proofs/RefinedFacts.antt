@@ -12,9 +12,9 @@ use Rattle.local_types.specs.declared.types.LocalTypes.{LocalTypes}
 use Rattle.report_rules.specs.Rules.{Rules}
 use Rattle.report_rules.specs.TypeMap.{TypeMap, refine}
 use Rattle.rule_state.specs.Conditions.{refined_by_said}
-use Rattle.rule_state.specs.Moves.{mapped}
+use Rattle.rule_work.specs.Moves.{mapped}
 use Rattle.rule_state.specs.Sound.{Stands}
-use Rattle.rule_state.specs.Work.{Work}
+use Rattle.rule_work.specs.Work.{Work}
 use Rattle.rule_state.proofs.SoundFacts.{none_given, stands_made}
 
 pub on_ok : {T E P Q : Type 0} (r : Result T E) → (P → Q) → OnOk r P → OnOk r Q

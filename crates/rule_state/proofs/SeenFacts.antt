@@ -7,7 +7,7 @@ use Rattle.local_types.specs.Entries.{arenas_of, type_of}
 use Rattle.local_types.specs.declared.types.LocalTypes.{LocalTypes}
 use Rattle.report_rules.specs.Seen.{Seen as PlainSeen, SeenExpr, SeenBody}
 use Rattle.rule_state.specs.Answers.{seen_in}
-use Rattle.rule_state.specs.Moves.{retyped, retyped_at}
+use Rattle.rule_work.specs.Moves.{retyped, retyped_at}
 use Rattle.rule_state.specs.Work.{seen_of, retyped_ref}
 use Rattle.rule_state.specs.declared.point.Seen.{Seen}
 use Rattle.rule_state.specs.declared.point.Seen.TheVariants.{Expr, Body}

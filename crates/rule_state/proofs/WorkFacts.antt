@@ -16,9 +16,10 @@ use Rattle.report_rules.specs.Seen.{Seen as PlainSeen, SeenExpr}
 use Rattle.report_rules.specs.TypeMap.{TypeMap, no_map}
 use Rattle.rule_state.proofs.SoundFacts.{lists_in, ends_in, sound_popped}
 use Rattle.rule_state.proofs.StackFacts.{popped_last}
-use Rattle.rule_state.specs.Moves.{valued, made_from, made, mapped}
+use Rattle.rule_work.specs.Moves.{valued, made_from, made, mapped}
 use Rattle.rule_state.specs.Sound.{Stands, StandsSeen, IsSound}
-use Rattle.rule_state.specs.Work.{Work, begun, builtins_in, map_of, seen_of, work_of}
+use Rattle.rule_work.specs.Work.{Work, begun}
+use Rattle.rule_state.specs.Work.{builtins_in, map_of, seen_of, work_of}
 use Rattle.local_types.specs.declared.node.Point.{Point}
 use Rattle.rule_state.specs.declared.point.Seen.{Seen}
 use Rattle.rule_state.specs.declared.point.Seen.TheVariants.{Expr, Body}

@@ -1,10 +1,5 @@
 pub mod Work
-pub mod Moves
 pub mod Sound
-pub mod Results
 pub mod Conditions
-pub mod Listed
-pub mod Branches
 pub mod Calls
-pub mod Tables
 pub mod Answers

@@ -1,39 +1,18 @@
--- What is at hand while the rules of a module are applied, as plain types and maps.
-use Rattle.std.specs.Prelude.{ℕ, Bool, List, [], map, reverse}
-use Rattle.luau_tree.specs.declared.names.ExprId.{ExprId}
-use Rattle.luau_tree.specs.declared.names.FnId.{FnId}
-use Rattle.type_arena.specs.Term.{Term}
+-- What a state stands for, as plain types and maps.
+use Rattle.std.specs.Prelude.{ℕ, List, map, reverse}
 use Rattle.type_arena.specs.declared.node.TypeRef.{TypeRef}
-use Rattle.type_normal.specs.Kinds.{unknown}
 use Rattle.local_types.specs.Entries.{type_of, entry_of}
 use Rattle.local_types.specs.declared.types.LocalTypes.{LocalTypes}
+use Rattle.local_types.specs.declared.node.Point.{Point}
 use Rattle.report_rules.specs.Seen.{Seen, SeenExpr, SeenBody}
-use Rattle.report_rules.specs.TypeMap.{TypeMap, no_map}
+use Rattle.report_rules.specs.TypeMap.{TypeMap}
 use Rattle.type_decl.specs.Signatures.{Signature}
 use Rattle.type_decl.specs.Tables.{declared_in}
 use Rattle.type_decl.specs.declared.table.SigTable.{SigTable}
-use Rattle.local_types.specs.declared.node.Point.{Point}
+use Rattle.rule_work.specs.Work.{Work}
 use Rattle.rule_state.specs.declared.point.Seen.{Seen as SeenRef}
 use Rattle.rule_state.specs.declared.point.Seen.TheVariants.{Expr, Body}
 use Rattle.rule_state.specs.declared.state.RuleState.{RuleState}
-
--- what is at hand: a type, and a map of the locals; what was put aside of both, the last first; lists of types and of maps, the
--- innermost first; what was seen; the places in that of expressions whose type is still to come, the last first; and the
--- declared builtins, which stay
-pub record Work : Type 0 where
-  pub value : Term
-  pub held : List Term
-  pub lists : List (List Term)
-  pub map : TypeMap
-  pub saved : List TypeMap
-  pub ends : List (List TypeMap)
-  pub seen : List Seen
-  pub pending : List ℕ
-  pub builtins : List (List ℕ × Signature)
-
--- where nothing is known and nothing was seen
-abbrev pub begun : List (List ℕ × Signature) → Work
-begun builtins = record { value = unknown; held = []; lists = []; map = no_map; saved = []; ends = []; seen = []; pending = []; builtins = builtins }
 
 -- the builtins that a table declares, with their signatures
 abbrev pub builtins_in : SigTable → List (List ℕ × Signature)

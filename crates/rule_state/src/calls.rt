@@ -10,8 +10,9 @@ ghost use Rattle.type_normal.specs.Operations.{union as union_term};
 ghost use Rattle.local_types.specs.Entries.{arenas_of, type_of};
 ghost use Rattle.type_decl.specs.Tables.{alone, refs_in};
 ghost use Rattle.report_rules.specs.Forward.{first_result};
-ghost use Rattle.rule_state.specs.Calls.{called, result_of_one, given_type, refs_given};
-ghost use Rattle.rule_state.specs.Moves.{valued};
+ghost use Rattle.rule_work.specs.Calls.{called, result_of_one};
+ghost use Rattle.rule_state.specs.Calls.{given_type, refs_given};
+ghost use Rattle.rule_work.specs.Moves.{valued};
 ghost use Rattle.rule_state.specs.Sound.{Stands};
 ghost use Rattle.rule_state.specs.Work.{builtins_in, work_of};
 

@@ -4,7 +4,7 @@ ghost use Rattle.module_reading.specs.Names.{meaning_of};
 ghost use Rattle.type_normal.specs.Cut.{cut_up as cut_up_term};
 ghost use Rattle.report_rules.specs.After.{where_live};
 ghost use Rattle.report_rules.specs.Forward.{held as held_term, builtin_or as builtin_or_term};
-ghost use Rattle.rule_state.specs.Moves.{valued};
+ghost use Rattle.rule_work.specs.Moves.{valued};
 ghost use Rattle.rule_state.specs.Work.{work_of};
 
 use crate::state::RuleState;

@@ -8,7 +8,7 @@ ghost use Rattle.module_reading.specs.Names.{Reads};
 ghost use Rattle.report_rules.specs.Rules.{Rules};
 ghost use Rattle.report_rules.specs.TypeMap.{refine as refine_map, body_map, forget as forget_locals};
 ghost use Rattle.rule_state.specs.Conditions.{headed, refined_by_said};
-ghost use Rattle.rule_state.specs.Moves.{mapped};
+ghost use Rattle.rule_work.specs.Moves.{mapped};
 ghost use Rattle.rule_state.specs.Sound.{Stands};
 ghost use Rattle.rule_state.specs.Work.{work_of};
 

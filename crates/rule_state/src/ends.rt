@@ -1,6 +1,6 @@
 //! The ends of branches.
 ghost use Rattle.std.specs.Prelude.{◌≡◌, OnOk};
-ghost use Rattle.rule_state.specs.Branches.{ends_joined};
+ghost use Rattle.rule_work.specs.Branches.{ends_joined};
 ghost use Rattle.rule_state.specs.Work.{work_of};
 
 use crate::state::RuleState;

@@ -4,7 +4,7 @@ ghost use Rattle.type_arena.specs.Term.{literal as literal_name};
 ghost use Rattle.type_normal.specs.Field.{with_row_field as with_field_term};
 ghost use Rattle.type_normal.specs.HeapFree.{widen_at as widen_at_term};
 ghost use Rattle.type_normal.specs.Kinds.{named_type as named_term};
-ghost use Rattle.rule_state.specs.Moves.{valued, mapped, known_of, set_as};
+ghost use Rattle.rule_work.specs.Moves.{valued, mapped, known_of, set_as};
 ghost use Rattle.rule_state.specs.Work.{work_of};
 
 use local_types::Point;

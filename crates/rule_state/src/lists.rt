@@ -4,8 +4,8 @@ ghost use Rattle.local_types.specs.Entries.{type_of};
 ghost use Rattle.report_rules.specs.Forward.{first_or_never};
 ghost use Rattle.report_rules.specs.TypeMap.{not_given as not_given_term};
 ghost use Rattle.type_fields.specs.Unions.{unions_with};
-ghost use Rattle.rule_state.specs.Listed.{used, first_taken};
-ghost use Rattle.rule_state.specs.Moves.{valued, list_begun, added, unlisted};
+ghost use Rattle.rule_work.specs.Listed.{used, first_taken};
+ghost use Rattle.rule_work.specs.Moves.{valued, list_begun, added, unlisted};
 ghost use Rattle.rule_state.specs.Sound.{Stands};
 ghost use Rattle.rule_state.specs.Work.{work_of};
 

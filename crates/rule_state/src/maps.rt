@@ -2,7 +2,7 @@
 ghost use Rattle.std.specs.Prelude.{◌≡◌, OnOk};
 ghost use Rattle.report_rules.specs.Forward.{after_part};
 ghost use Rattle.report_rules.specs.TypeMap.{ended as ended_map, widened_at};
-ghost use Rattle.rule_state.specs.Moves.{mapped, kept_map, restored, ends_begun, end_added};
+ghost use Rattle.rule_work.specs.Moves.{mapped, kept_map, restored, ends_begun, end_added};
 ghost use Rattle.rule_state.specs.Work.{work_of};
 
 use crate::state::RuleState;

@@ -3,7 +3,8 @@ ghost use Rattle.std.specs.Prelude.{◌≡◌, IfOk};
 ghost use Rattle.type_arena.specs.Arena.{home_of};
 ghost use Rattle.local_types.specs.Entries.{arena_of};
 ghost use Rattle.rule_state.specs.Sound.{IsConfined, KnowsTable};
-ghost use Rattle.rule_state.specs.Work.{work_of, begun, builtins_in};
+ghost use Rattle.rule_work.specs.Work.{begun};
+ghost use Rattle.rule_state.specs.Work.{work_of, builtins_in};
 
 use local_types::Point;
 use crate::state::RuleState;

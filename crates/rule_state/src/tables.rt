@@ -1,6 +1,6 @@
 //! The types of table constructors.
 ghost use Rattle.std.specs.Prelude.{◌≡◌, OnOk};
-ghost use Rattle.rule_state.specs.Tables.{rowed};
+ghost use Rattle.rule_work.specs.Tables.{rowed};
 ghost use Rattle.rule_state.specs.Work.{work_of};
 
 use crate::state::RuleState;

@@ -7,7 +7,7 @@ use Rattle.local_types.specs.Entries.{type_of}
 use Rattle.type_arena.specs.declared.node.TypeRef.{TypeRef}
 use Rattle.rule_state.specs.Sound.{Stands}
 use Rattle.rule_state.proofs.SoundFacts.{lists_in, ends_in, with_lists}
-use Rattle.rule_state.specs.Moves.{added_to}
+use Rattle.rule_work.specs.Moves.{added_to}
 use Rattle.rule_state.specs.Work.{work_of}
 use Rattle.rule_state.proofs.StackFacts.{pushed_list, popped_list, popped_no_list, all_popped, all_pushed_or_not}
 use Rattle.rule_state.proofs.state.RuleState.add.Goals as goal

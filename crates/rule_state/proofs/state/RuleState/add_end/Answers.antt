@@ -6,7 +6,7 @@ use Rattle.report_rules.specs.TypeMap.{TypeMap}
 use Rattle.local_types.specs.Entries.{IsMap}
 use Rattle.local_types.specs.declared.node.Point.{Point}
 use Rattle.rule_state.proofs.SoundFacts.{lists_in, ends_in, with_ends}
-use Rattle.rule_state.specs.Moves.{ended_in}
+use Rattle.rule_work.specs.Moves.{ended_in}
 use Rattle.rule_state.specs.Work.{map_of, work_of}
 use Rattle.rule_state.proofs.StackFacts.{pushed_list, popped_list, popped_no_list, all_popped, all_pushed_or_not}
 use Rattle.rule_state.proofs.state.RuleState.add_end.Goals as goal

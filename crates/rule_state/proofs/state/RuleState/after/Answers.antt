@@ -2,7 +2,7 @@ use Rattle.std.proofs.Common.{[], ℕ, ap, sym, ◌∙◌}
 use Rattle.type_arena.specs.Term.{Term}
 use Rattle.report_rules.specs.Forward.{after_part}
 use Rattle.std.specs.Prelude.{Bool, true}
-use Rattle.rule_state.specs.Moves.{mapped}
+use Rattle.rule_work.specs.Moves.{mapped}
 use Rattle.rule_state.proofs.SoundFacts.{none_given, same_at_hand, point_at_hand}
 use Rattle.rule_state.proofs.WorkFacts.{work_mapped}
 use Rattle.rule_state.specs.Work.{work_of}

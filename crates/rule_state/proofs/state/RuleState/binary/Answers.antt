@@ -1,7 +1,7 @@
 use Rattle.std.proofs.Common.{[], ◌∷◌, List, ap, sym, ◌∙◌, subst}
 use Rattle.type_arena.specs.Term.{Term}
 use Rattle.local_types.specs.Entries.{type_of}
-use Rattle.rule_state.specs.Moves.{made_from}
+use Rattle.rule_work.specs.Moves.{made_from}
 use Rattle.rule_state.specs.Work.{work_of}
 use Rattle.type_arena.specs.Arena.{store_of}
 use Rattle.type_arena.specs.Meaning.{term_of}
@@ -9,7 +9,7 @@ use Rattle.type_arena.specs.declared.arena.Arena.{Arena}
 use Rattle.std.specs.Prelude.{◌&&◌}
 use Rattle.subtype_check.specs.Below.{below}
 use Rattle.report_rules.specs.Forward.{not_other, binary_type}
-use Rattle.rule_state.specs.Results.{result_term}
+use Rattle.rule_work.specs.Results.{result_term}
 use Rattle.rule_state.proofs.OtherFacts.{binary_is}
 use Rattle.rule_state.proofs.SoundFacts.{none_given}
 use Rattle.rule_state.proofs.SoundFacts.{popped_same, popped_other}

@@ -6,7 +6,8 @@ use Rattle.type_arena.specs.declared.node.TypeRef.{TypeRef}
 use Rattle.local_types.specs.Entries.{type_of}
 use Rattle.report_rules.specs.Forward.{first_or_never as first_type}
 use Rattle.rule_state.specs.Sound.{Stands}
-use Rattle.rule_state.specs.Work.{Work, work_of}
+use Rattle.rule_work.specs.Work.{Work}
+use Rattle.rule_state.specs.Work.{work_of}
 use Rattle.rule_state.proofs.ListFacts.{first_stands, no_first, some_first, sound_unlisted, list_stands, used_is, used_none}
 use Rattle.rule_state.proofs.SoundFacts.{lists_in, ends_in, with_value}
 use Rattle.rule_state.proofs.state.RuleState.first_or_never.Goals as goal

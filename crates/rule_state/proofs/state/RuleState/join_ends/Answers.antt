@@ -6,7 +6,7 @@ use Rattle.local_types.specs.Ends.{all_dead, joining}
 use Rattle.local_types.specs.Entries.{entry_of, IsMap}
 use Rattle.local_types.specs.declared.node.Point.{Point}
 use Rattle.report_rules.specs.TypeMap.{TypeMap}
-use Rattle.rule_state.specs.Branches.{joined_from}
+use Rattle.rule_work.specs.Branches.{joined_from}
 use Rattle.rule_state.specs.Work.{map_of, work_of}
 use Rattle.rule_state.proofs.EndFacts.{joined_maps, ends_are_maps, without_ends_same, without_ends_other, work_joined}
 use Rattle.rule_state.proofs.ListFacts.{all_reversed}

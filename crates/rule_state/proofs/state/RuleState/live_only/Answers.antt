@@ -2,7 +2,7 @@ use Rattle.std.proofs.Common.{◌≡◌, Bool, ap, sym, subst, OnOk}
 use Rattle.std.specs.Prelude.{if◌then◌else◌}
 use Rattle.type_arena.specs.Term.{Term, never}
 use Rattle.local_types.specs.Entries.{type_of}
-use Rattle.rule_state.specs.Moves.{valued}
+use Rattle.rule_work.specs.Moves.{valued}
 use Rattle.rule_state.specs.Work.{work_of}
 use Rattle.rule_state.proofs.state.RuleState.live_only.Goals as goal
 

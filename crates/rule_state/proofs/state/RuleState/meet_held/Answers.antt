@@ -1,7 +1,7 @@
 use Rattle.std.proofs.Common.{[], ◌∷◌, List, ap, sym, ◌∙◌, subst}
 use Rattle.type_arena.specs.Term.{Term}
 use Rattle.local_types.specs.Entries.{type_of}
-use Rattle.rule_state.specs.Moves.{made_from}
+use Rattle.rule_work.specs.Moves.{made_from}
 use Rattle.rule_state.specs.Work.{work_of}
 use Rattle.type_normal.specs.Operations.{meet}
 use Rattle.rule_state.proofs.SoundFacts.{popped_same, popped_other, both_given}

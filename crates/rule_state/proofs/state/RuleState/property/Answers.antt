@@ -8,7 +8,7 @@ use Rattle.type_arena.specs.declared.arena.Arena.{Arena}
 use Rattle.type_normal.specs.Field.{field_type}
 use Rattle.type_normal.specs.Kinds.{unknown}
 use Rattle.report_rules.specs.Forward.{has_strings_or_other, property}
-use Rattle.rule_state.specs.Moves.{valued}
+use Rattle.rule_work.specs.Moves.{valued}
 use Rattle.rule_state.specs.Work.{work_of}
 use Rattle.rule_state.proofs.SoundFacts.{one_given, same_at_hand, other_at_hand}
 use Rattle.rule_state.proofs.WorkFacts.{work_valued}

@@ -8,7 +8,7 @@ use Rattle.type_normal.specs.Cut.{cut_up}
 use Rattle.type_normal.specs.Rows.{is_empty}
 use Rattle.local_types.specs.Entries.{type_of, entry_of}
 use Rattle.report_rules.specs.TypeMap.{TypeMap}
-use Rattle.rule_state.specs.Moves.{set_as}
+use Rattle.rule_work.specs.Moves.{set_as}
 use Rattle.rule_state.specs.Sound.{Stands}
 use Rattle.rule_state.specs.Work.{work_of}
 use Rattle.local_types.proofs.GrowFacts.{map_stands, entry_stays}

@@ -3,7 +3,8 @@ use Rattle.std.specs.Prelude.{All, map, is_ok}
 use Rattle.std.proofs.lemmas.List.Elements.{All-head, All-tail}
 use Rattle.type_arena.specs.declared.node.TypeRef.{TypeRef}
 use Rattle.rule_state.specs.Sound.{Stands}
-use Rattle.rule_state.specs.Work.{Work, work_of}
+use Rattle.rule_work.specs.Work.{Work}
+use Rattle.rule_state.specs.Work.{work_of}
 use Rattle.rule_state.proofs.ListFacts.{is_emptied, first_removed, list_stands, sound_unlisted, nothing_taken, one_taken, no_list_taken}
 use Rattle.rule_state.proofs.SoundFacts.{ends_in, with_value, with_lists}
 use Rattle.rule_state.proofs.StackFacts.{all_popped, all_pushed_or_not}

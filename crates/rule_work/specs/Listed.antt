@@ -2,7 +2,7 @@
 use Rattle.std.specs.Prelude.{Bool, List, [], ◌∷◌}
 use Rattle.type_arena.specs.Term.{Term}
 use Rattle.report_rules.specs.TypeMap.{not_given}
-use Rattle.rule_state.specs.Work.{Work}
+use Rattle.rule_work.specs.Work.{Work}
 
 -- the innermost list is used up, and makes a type with the one at hand
 abbrev pub used_from : (List Term → Term → Term) → List (List Term) → Work → Work

@@ -1,7 +1,7 @@
 -- What calls make of the ends of branches.
 use Rattle.std.specs.Prelude.{List, [], ◌∷◌}
 use Rattle.report_rules.specs.TypeMap.{TypeMap, joined}
-use Rattle.rule_state.specs.Work.{Work}
+use Rattle.rule_work.specs.Work.{Work}
 
 -- the map is that after the branches with the innermost ends, which are let go
 abbrev pub joined_from : List (List TypeMap) → Work → Work

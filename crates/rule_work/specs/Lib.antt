@@ -1,0 +1,7 @@
+pub mod Work
+pub mod Moves
+pub mod Results
+pub mod Listed
+pub mod Branches
+pub mod Calls
+pub mod Tables
