@@ -1,6 +1,5 @@
 -- What a table constructor gives whose named fields have the types of a list.
 use Rattle.std.specs.Prelude.{ℕ, false, List}
-use Rattle.type_arena.specs.Term.{Term}
 use Rattle.type_normal.specs.Kinds.{row_type}
 use Rattle.local_types.specs.Named.{fields_named}
 use Rattle.rule_work.specs.Listed.{used}
