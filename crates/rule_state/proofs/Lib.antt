@@ -8,3 +8,4 @@ pub mod ListFacts
 pub mod EndFacts
 pub mod GuardedFacts
 pub mod RefinedFacts
+pub mod CallFacts

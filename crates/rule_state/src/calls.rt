@@ -11,7 +11,7 @@ ghost use Rattle.local_types.specs.Entries.{arenas_of, type_of};
 ghost use Rattle.type_decl.specs.Tables.{alone, refs_in};
 ghost use Rattle.report_rules.specs.Forward.{first_result};
 ghost use Rattle.rule_work.specs.Calls.{called, result_of_one};
-ghost use Rattle.rule_state.specs.Calls.{given_type, refs_given};
+ghost use Rattle.rule_state.specs.Calls.{given_type, refs_given, IsDeclared};
 ghost use Rattle.rule_work.specs.Moves.{valued};
 ghost use Rattle.rule_state.specs.Sound.{Stands};
 ghost use Rattle.rule_state.specs.Work.{builtins_in, work_of};
@@ -87,7 +87,7 @@ impl<'a> RuleState<'a> {
 pub(crate) fn gives_of(types: &LocalTypes<'_>, table: &SigTable, at: TypeRef) -> Gives
     requires { IsTrue (has_node (arenas_of types.now) at) }
     ensures result { (first : Term) → given_type (term_of (alone table.now.arena)) result first ≡ result_of_one (builtins_in table.now) (one_function (type_of types.now at)) first }
-    ensures among { (holds : RefValue → Type 0) → All (λ sig. All holds (refs_in sig)) table.now.sigs → All holds (refs_given result) }
+    ensures among { All (IsDeclared table.now.sigs) (refs_given result) }
 {
     match exactly_one_function(types.arena(), at) {
         Some(FnName::Builtin(path)) => gives_by(table, path),
@@ -98,7 +98,7 @@ pub(crate) fn gives_of(types: &LocalTypes<'_>, table: &SigTable, at: TypeRef) ->
 // What a call of a builtin gives.
 fn gives_by(table: &SigTable, path: &Label) -> Gives
     ensures result { (first : Term) → given_type (term_of (alone table.now.arena)) result first ≡ result_of_one (builtins_in table.now) (Some (builtin_name path.now)) first }
-    ensures among { (holds : RefValue → Type 0) → All (λ sig. All holds (refs_in sig)) table.now.sigs → All holds (refs_given result) }
+    ensures among { All (IsDeclared table.now.sigs) (refs_given result) }
 {
     match table.get(path.as_slice()) {
         None => Gives::Anything,
@@ -115,7 +115,7 @@ fn gives_by(table: &SigTable, path: &Label) -> Gives
 // What the results of a signature begin with.
 fn first_of(sig: &Sig) -> Gives
     ensures result { (means : RefValue → Term) (first : Term) → given_type means result first ≡ first_result (map means sig.now.results) (option_map means sig.now.more) }
-    ensures among { (holds : RefValue → Type 0) → All holds (refs_in sig.now) → All holds (refs_given result) }
+    ensures among { All (Contains (refs_in sig.now)) (refs_given result) }
 {
     match sig.results.as_slice().first() {
         Some(at) => Gives::Exactly(*at),
