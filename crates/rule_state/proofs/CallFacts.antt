@@ -1,13 +1,12 @@
 -- What a call of a declared builtin gives.
 use Rattle.std.proofs.Common.{◌≡◌, List, [], ◌∷◌, ◌++◌, length, refl, sym, ap, ◌∙◌, arith}
-use Rattle.std.specs.Prelude.{All, Contains, Option, Some, None, option_map, option_to_list, map, reverse, slice_get, IsTrue, MatchOption, ℕ}
+use Rattle.std.specs.Prelude.{All, Contains, Option, Some, None, option_to_list, map, reverse, slice_get, IsTrue, MatchOption, ℕ}
 use Rattle.std.proofs.lemmas.List.Elements.{All-nil, All-cons, All-weaker, All-contains, Contains-append_left, Contains-append_right}
 use Rattle.type_arena.specs.Meaning.{term_of}
 use Rattle.type_arena.specs.Store.{has}
 use Rattle.type_arena.specs.Term.{Term}
 use Rattle.type_arena.specs.declared.node.TypeRef.{TypeRef}
 use Rattle.type_arena.proofs.MeaningLemmas.{term_of-kept}
-use Rattle.type_normal.specs.Field.{frozen_rows}
 use Rattle.type_normal.specs.Kinds.{exactly_one_function, nil_type}
 use Rattle.type_normal.specs.Operations.{union}
 use Rattle.local_types.specs.Entries.{arena_of, arenas_of, type_of}
@@ -17,9 +16,8 @@ use Rattle.type_decl.specs.declared.sig.Sig.{Sig}
 use Rattle.type_decl.specs.declared.table.SigTable.{SigTable}
 use Rattle.rule_work.specs.Calls.{called, result_of_one}
 use Rattle.rule_work.specs.Moves.{made_from}
-use Rattle.rule_work.specs.Work.{Work}
 use Rattle.rule_state.specs.Calls.{given_type, refs_given, IsDeclared}
-use Rattle.rule_state.specs.Sound.{Stands, KnowsTable}
+use Rattle.rule_state.specs.Sound.{KnowsTable}
 use Rattle.rule_state.specs.Work.{builtins_in, work_of}
 use Rattle.rule_state.specs.declared.calls.Gives.{Gives}
 use Rattle.rule_state.specs.declared.calls.Gives.TheVariants.{Anything, Frozen, Exactly, OrNil, Nil}

@@ -1,12 +1,11 @@
 -- The ends of branches, put together.
-use Rattle.std.proofs.Common.{◌≡◌, ℕ, List, [], ◌∷◌, ◌++◌, length, refl, sym, ap, ◌∙◌, Vec, Global}
-use Rattle.std.specs.Prelude.{Bool, true, false, not, ◌&&◌, All, map, reverse, filter, Option, Some, None, option_to_list, MatchOption, if◌then◌else◌}
+use Rattle.std.proofs.Common.{◌≡◌, ℕ, List, [], ◌∷◌, ◌++◌, refl, sym, ap, ◌∙◌, Vec, Global}
+use Rattle.std.specs.Prelude.{Bool, true, false, not, ◌&&◌, All, map, reverse, filter, Option, Some, option_to_list, if◌then◌else◌}
 use Rattle.type_arena.specs.Term.{Term}
-use Rattle.type_arena.specs.declared.node.TypeRef.{TypeRef}
 use Rattle.type_normal.specs.Cut.{cut_up}
 use Rattle.type_normal.specs.Operations.{union}
 use Rattle.local_types.specs.Ends.{all_dead, union_live, joining}
-use Rattle.local_types.specs.Entries.{type_of, entry_of, IsMap}
+use Rattle.local_types.specs.Entries.{entry_of, IsMap}
 use Rattle.local_types.specs.Growing.{Grows}
 use Rattle.local_types.specs.declared.node.Point.{Point}
 use Rattle.local_types.specs.declared.types.LocalTypes.{LocalTypes}
@@ -17,7 +16,7 @@ use Rattle.rule_work.specs.Work.{Work}
 use Rattle.rule_state.specs.Work.{builtins_in, map_of, work_of}
 use Rattle.rule_state.specs.declared.state.RuleState.{RuleState}
 use Rattle.rule_state.proofs.SoundFacts.{lists_in, ends_in, with_ends, with_point, sound_on, none_given}
-use Rattle.rule_state.proofs.StackFacts.{popped_list, popped_no_list, all_popped, all_rest}
+use Rattle.rule_state.proofs.StackFacts.{popped_list, all_popped, all_rest}
 use Rattle.rule_state.proofs.WorkFacts.{work_parts, parts_stay}
 
 abbrev live : List TypeMap → List TypeMap

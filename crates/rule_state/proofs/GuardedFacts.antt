@@ -88,7 +88,7 @@ some_is means [] lowest ascend f entries says = refl
 some_is means (x ∷ said) lowest ascend f entries says =
     let first : means x.1 ≡ f x.0.0 = sym (ap (λ (b : Bool). if b then means x.1 else type_in (meant means said) x.0.0) (eq-eqb x.0.0 x.0.0 refl)) ∙ says x.0.0 ascend.0 in
     let rest = some_is means said (suc x.0.0) ascend.1 f entries
-        (λ local above. sym (ap (λ (b : Bool). if b then means x.1 else type_in (meant means said) local) (below_not x.0.0 local above)) ∙ says local (omega (arith, above, ascend.0))) in
+    (λ local above. sym (ap (λ (b : Bool). if b then means x.1 else type_in (meant means said) local) (below_not x.0.0 local above)) ∙ says local (omega (arith, above, ascend.0))) in
     ap (λ (type : Term). is_empty (refined_by type (entries x.0.0)) || some_empty (said_meant means said) entries) first
     ∙ ap (λ (b : Bool). is_empty (refined_by (f x.0.0) (entries x.0.0)) || b) rest
 

@@ -9,3 +9,4 @@ pub mod EndFacts
 pub mod GuardedFacts
 pub mod RefinedFacts
 pub mod CallFacts
+pub mod UnionFacts

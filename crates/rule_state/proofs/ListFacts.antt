@@ -17,7 +17,6 @@ use Rattle.report_rules.specs.TypeMap.{not_given}
 use Rattle.rule_work.specs.Listed.{used_from, used, first_taken_from, first_taken}
 use Rattle.rule_work.specs.Moves.{valued}
 use Rattle.rule_state.specs.Sound.{Stands, IsSound}
-use Rattle.rule_work.specs.Work.{Work}
 use Rattle.rule_state.specs.Work.{builtins_in, work_of}
 use Rattle.rule_state.specs.declared.state.RuleState.{RuleState}
 use Rattle.rule_state.proofs.SoundFacts.{lists_in, ends_in, with_lists, sound_on, sound_valued}

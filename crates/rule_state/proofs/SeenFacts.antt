@@ -1,11 +1,11 @@
 -- What was seen, with another type at one place.
-use Rattle.std.proofs.Common.{◌≡◌, ℕ, zero, suc, ◌<◌, ◌≤◌, List, [], ◌∷◌, length, refl, sym, ap, ◌∙◌, arith}
-use Rattle.std.specs.Prelude.{Bool, false, nat_lt, map, slice_set, slice_index_or}
+use Rattle.std.proofs.Common.{◌≡◌, ℕ, zero, suc, ◌<◌, ◌≤◌, List, [], ◌∷◌, length, refl, ap, ◌∙◌, arith}
+use Rattle.std.specs.Prelude.{map, slice_set, slice_index_or}
 use Rattle.type_arena.specs.Term.{Term}
 use Rattle.type_arena.specs.declared.node.TypeRef.{TypeRef}
 use Rattle.local_types.specs.Entries.{arenas_of, type_of}
 use Rattle.local_types.specs.declared.types.LocalTypes.{LocalTypes}
-use Rattle.report_rules.specs.Seen.{Seen as PlainSeen, SeenExpr, SeenBody}
+use Rattle.report_rules.specs.Seen.{Seen as PlainSeen}
 use Rattle.rule_state.specs.Answers.{seen_in}
 use Rattle.rule_work.specs.Moves.{retyped, retyped_at}
 use Rattle.rule_state.specs.Work.{seen_of, retyped_ref}

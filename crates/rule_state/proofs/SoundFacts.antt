@@ -1,8 +1,7 @@
 -- What stands in the arena of a state stands there after calls.
-use Rattle.std.proofs.Common.{◌≡◌, ℕ, List, [], ◌∷◌, ◌++◌, refl, sym, ap, ◌∙◌, subst}
+use Rattle.std.proofs.Common.{◌≡◌, ℕ, List, [], ◌∷◌, ◌++◌, ap, ◌∙◌, subst}
 use Rattle.std.specs.Prelude.{Bool, All, IsTrue, map, Option, Some, option_to_list}
 use Rattle.std.proofs.lemmas.List.Elements.{All-nil, All-cons, All-weaker, All-pop}
-use Rattle.type_arena.specs.Arena.{home_of}
 use Rattle.type_arena.specs.Store.{has}
 use Rattle.type_arena.specs.declared.node.TypeRef.{TypeRef}
 use Rattle.local_types.specs.Entries.{arena_of, arenas_of, IsMap}

@@ -1,5 +1,5 @@
 -- Stacks: lists whose last element comes first in what they stand for.
-use Rattle.std.proofs.Common.{◌≡◌, ℕ, suc, List, [], ◌∷◌, ◌++◌, length, refl, sym, ap, ◌∙◌, subst, arith}
+use Rattle.std.proofs.Common.{◌≡◌, ℕ, List, [], ◌∷◌, ◌++◌, length, refl, sym, ap, ◌∙◌, subst, arith}
 use Rattle.std.specs.Prelude.{Bool, true, false, if◌then◌else◌, All, map, reverse, Option, Some, None, option_to_list, MatchOption}
 use Rattle.std.proofs.lemmas.List.Elements.{All-push, All-pop}
 use Rattle.rule_work.specs.Moves.{rest_of}

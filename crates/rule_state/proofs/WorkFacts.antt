@@ -2,7 +2,6 @@
 use Rattle.std.proofs.Common.{◌≡◌, ℕ, List, [], ◌∷◌, ◌++◌, refl, sym, ap, ◌∙◌}
 use Rattle.std.specs.Prelude.{false, All, map, reverse, Option, Some, option_to_list}
 use Rattle.std.proofs.lemmas.List.Elements.{All-weaker, All-head, All-tail}
-use Rattle.std.proofs.lemmas.List.{reverse-append}
 use Rattle.type_arena.specs.Term.{Term}
 use Rattle.type_arena.specs.declared.node.TypeRef.{TypeRef}
 use Rattle.type_normal.specs.Kinds.{unknown}
@@ -12,7 +11,7 @@ use Rattle.local_types.specs.declared.node.LocalMap.{LocalMap}
 use Rattle.local_types.specs.declared.types.LocalTypes.{LocalTypes}
 use Rattle.local_types.proofs.GrowFacts.{type_stays, map_stays}
 use Rattle.type_decl.specs.Signatures.{Signature}
-use Rattle.report_rules.specs.Seen.{Seen as PlainSeen, SeenExpr}
+use Rattle.report_rules.specs.Seen.{SeenExpr}
 use Rattle.report_rules.specs.TypeMap.{TypeMap, no_map}
 use Rattle.rule_state.proofs.SoundFacts.{lists_in, ends_in, sound_popped}
 use Rattle.rule_state.proofs.StackFacts.{popped_last}

@@ -1,9 +1,6 @@
 -- What is handed over at the end, in the arena of the types.
-use Rattle.std.specs.Prelude.{◌≡◌, List, All, map}
-use Rattle.type_arena.specs.Arena.{store_of}
 use Rattle.type_arena.specs.Meaning.{term_of}
 use Rattle.type_arena.specs.Store.{Store}
-use Rattle.type_arena.specs.declared.arena.Arena.{Arena}
 use Rattle.report_rules.specs.Seen.{Seen, SeenExpr, SeenBody}
 use Rattle.rule_state.specs.declared.point.Seen.{Seen as SeenRef}
 use Rattle.rule_state.specs.declared.point.Seen.TheVariants.{Expr, Body}

@@ -12,10 +12,9 @@ ghost use Rattle.rule_work.specs.Moves.{mapped};
 ghost use Rattle.rule_state.specs.Sound.{Stands};
 ghost use Rattle.rule_state.specs.Work.{work_of};
 
-use local_types::Point;
 use crate::guarding::guard_in;
 use crate::state::RuleState;
-use local_types::Change;
+use local_types::{Change, Point};
 use luau_scope::Scoped;
 use luau_tree::{Expr, LocalId};
 use std::alloc::AllocError;

@@ -7,8 +7,8 @@ ghost use Rattle.type_normal.specs.Kinds.{named_type as named_term};
 ghost use Rattle.rule_work.specs.Moves.{valued, mapped, known_of, set_as};
 ghost use Rattle.rule_state.specs.Work.{work_of};
 
-use local_types::Point;
 use crate::state::RuleState;
+use local_types::Point;
 use luau_tree::{FnId, LocalId};
 use std::alloc::AllocError;
 use type_arena::Label;

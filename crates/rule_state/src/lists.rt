@@ -1,5 +1,7 @@
 //! Lists of types.
 ghost use Rattle.std.specs.Prelude.{◌≡◌, All, map, OnOk};
+ghost use Rattle.type_arena.specs.declared.node.TypeRef.{TypeRef as RefValue};
+ghost use Rattle.type_normal.specs.Operations.{union as union_term};
 ghost use Rattle.local_types.specs.Entries.{type_of};
 ghost use Rattle.report_rules.specs.Forward.{first_or_never};
 ghost use Rattle.report_rules.specs.TypeMap.{not_given as not_given_term};
@@ -97,9 +99,20 @@ impl<'a> RuleState<'a> {
         ensures { OnOk result (work_of self.new ≡ valued (unions_with (map (type_of self.old.types) list.items) (work_of self.old).value) (work_of self.old)) }
     {
         while let Some(next) = list.pop() {
-            let at = self.types.union(self.alloc, next, self.value)?;
-            self.value = at;
+            self.union_with(next)?;
         }
+        Ok(())
+    }
+
+    // The values of a type, or of the one at hand. What stood stands, and means what it meant.
+    fn union_with(&mut self, at: TypeRef) -> Result<(), AllocError>
+        requires { Stands self.old.types self.old.outside.items at }
+        ensures work { OnOk result (work_of self.new ≡ valued (union_term (type_of self.old.types at) (work_of self.old).value) (work_of self.old)) }
+        ensures stands { (other : RefValue) → Stands self.old.types self.old.outside.items other → Stands self.new.types self.new.outside.items other }
+        ensures means { (other : RefValue) → Stands self.old.types self.old.outside.items other → type_of self.new.types other ≡ type_of self.old.types other }
+    {
+        let at = self.types.union(self.alloc, at, self.value)?;
+        self.value = at;
         Ok(())
     }
 }

@@ -6,9 +6,8 @@ ghost use Rattle.rule_state.specs.Sound.{IsConfined, KnowsTable};
 ghost use Rattle.rule_work.specs.Work.{begun};
 ghost use Rattle.rule_state.specs.Work.{work_of, builtins_in};
 
-use local_types::Point;
 use crate::state::RuleState;
-use local_types::LocalTypes;
+use local_types::{LocalTypes, Point};
 use std::alloc::{AllocError, Global};
 use type_arena::TypeRef;
 use type_decl::SigTable;

@@ -7,8 +7,7 @@ ghost use Rattle.std.specs.Prelude.{◌≡◌, map};
 ghost use Rattle.rule_state.specs.Sound.{IsSound, KnowsTable};
 
 use crate::point::Seen;
-use local_types::Point;
-use local_types::LocalTypes;
+use local_types::{LocalTypes, Point};
 use std::alloc::Global;
 use type_arena::TypeRef;
 use type_decl::SigTable;

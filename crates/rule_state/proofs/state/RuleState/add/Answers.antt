@@ -1,10 +1,9 @@
-use Rattle.std.proofs.Common.{◌≡◌, [], ◌∷◌, ◌++◌, ℕ, List, ap, sym, ◌∙◌, subst, refl}
+use Rattle.std.proofs.Common.{◌≡◌, [], ◌∷◌, ◌++◌, List, ap, sym, ◌∙◌, subst}
 use Rattle.std.specs.Prelude.{All, map, reverse, is_ok}
 use Rattle.std.proofs.lemmas.List.{map-append}
 use Rattle.std.proofs.lemmas.List.Elements.{All-push}
 use Rattle.type_arena.specs.Term.{Term}
 use Rattle.local_types.specs.Entries.{type_of}
-use Rattle.type_arena.specs.declared.node.TypeRef.{TypeRef}
 use Rattle.rule_state.specs.Sound.{Stands}
 use Rattle.rule_state.proofs.SoundFacts.{lists_in, ends_in, with_lists}
 use Rattle.rule_work.specs.Moves.{added_to}

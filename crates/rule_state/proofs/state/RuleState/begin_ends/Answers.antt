@@ -1,10 +1,10 @@
-use Rattle.std.proofs.Common.{[], ◌∷◌, List, ap, sym, ◌∙◌, subst}
+use Rattle.std.proofs.Common.{◌∷◌, List, ap, sym, ◌∙◌, subst}
 use Rattle.std.specs.Prelude.{All, map, reverse, is_ok}
 use Rattle.std.proofs.lemmas.List.Elements.{All-nil}
 use Rattle.report_rules.specs.TypeMap.{TypeMap}
 use Rattle.local_types.specs.Entries.{IsMap}
 use Rattle.local_types.specs.declared.node.Point.{Point}
-use Rattle.rule_state.proofs.SoundFacts.{lists_in, ends_in, with_value, with_held, with_ends, with_point, with_saved, with_ends, with_seen, sound_on, sound_valued, none_given, one_given, two_given, same_at_hand, other_at_hand}
+use Rattle.rule_state.proofs.SoundFacts.{lists_in, ends_in, with_ends, with_ends}
 use Rattle.rule_state.specs.Work.{map_of, work_of}
 use Rattle.rule_state.proofs.StackFacts.{pushed_list, all_pushed_or_not}
 use Rattle.rule_state.proofs.state.RuleState.begin_ends.Goals as goal

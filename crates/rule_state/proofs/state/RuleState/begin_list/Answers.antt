@@ -1,11 +1,11 @@
-use Rattle.std.proofs.Common.{[], ◌∷◌, List, ap, sym, ◌∙◌, subst}
+use Rattle.std.proofs.Common.{◌∷◌, List, ap, sym, ◌∙◌, subst}
 use Rattle.std.specs.Prelude.{All, map, reverse, is_ok}
 use Rattle.std.proofs.lemmas.List.Elements.{All-nil}
 use Rattle.type_arena.specs.Term.{Term}
 use Rattle.local_types.specs.Entries.{type_of}
 use Rattle.type_arena.specs.declared.node.TypeRef.{TypeRef}
 use Rattle.rule_state.specs.Sound.{Stands}
-use Rattle.rule_state.proofs.SoundFacts.{lists_in, ends_in, with_value, with_held, with_lists, with_point, with_saved, with_ends, with_seen, sound_on, sound_valued, none_given, one_given, two_given, same_at_hand, other_at_hand}
+use Rattle.rule_state.proofs.SoundFacts.{lists_in, ends_in, with_lists}
 use Rattle.rule_state.specs.Work.{work_of}
 use Rattle.rule_state.proofs.StackFacts.{pushed_list, all_pushed_or_not}
 use Rattle.rule_state.proofs.state.RuleState.begin_list.Goals as goal

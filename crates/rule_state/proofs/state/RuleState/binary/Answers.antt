@@ -1,4 +1,4 @@
-use Rattle.std.proofs.Common.{[], ◌∷◌, List, ap, sym, ◌∙◌, subst}
+use Rattle.std.proofs.Common.{[], List, ap, sym, ◌∙◌}
 use Rattle.type_arena.specs.Term.{Term}
 use Rattle.local_types.specs.Entries.{type_of}
 use Rattle.rule_work.specs.Moves.{made_from}
@@ -20,14 +20,16 @@ use Rattle.rule_state.proofs.state.RuleState.binary.Goals as goal
 
 pub invariant_of-self : goal.invariant_of-self
 invariant_of-self c = record {
-  at_home = c.args.self.now.at_home ∙ sym c.plain.ensures.grows.home; known = known_then c.args.self.now c.plain.new.self _ c.plain.ensures.grows;
+  at_home = c.args.self.now.at_home ∙ sym c.plain.ensures.grows.home;
+  known = known_then c.args.self.now c.plain.new.self _ c.plain.ensures.grows;
   sound = popped_same c.args.self.now c.plain.new.self [] c.pop.new.self.items c.pop.result c.in-Some.left c.pop.ensures.items c.in-Some.is
       (none_given _ _) c.plain.ensures.grows;
 }
 
 pub invariant_of-self-in-Some : goal.invariant_of-self-in-Some
 invariant_of-self-in-Some c = record {
-  at_home = c.args.self.now.at_home ∙ sym c.plain.ensures.grows.home; known = known_then c.args.self.now c.plain.new.self _ c.plain.ensures.grows;
+  at_home = c.args.self.now.at_home ∙ sym c.plain.ensures.grows.home;
+  known = known_then c.args.self.now c.plain.new.self _ c.plain.ensures.grows;
   sound = popped_other c.args.self.now c.plain.new.self [] c.pop.new.self.items c.pop.result c.in-Some.left c.in_ok-at.at c.pop.ensures.items c.in-Some.is
       (none_given _ _) c.plain.ensures.grows c.in_ok-at.ensures.there c.in_ok-at.ensures.made;
 }

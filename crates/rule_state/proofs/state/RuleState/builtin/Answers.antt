@@ -1,4 +1,4 @@
-use Rattle.std.proofs.Common.{[], ◌∷◌, sym, ◌∙◌}
+use Rattle.std.proofs.Common.{[], sym, ◌∙◌}
 use Rattle.rule_state.specs.Work.{work_of}
 use Rattle.rule_state.proofs.SoundFacts.{none_given, same_at_hand, other_at_hand}
 use Rattle.rule_state.proofs.WorkFacts.{work_valued}

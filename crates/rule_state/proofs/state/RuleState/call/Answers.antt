@@ -1,9 +1,7 @@
-use Rattle.std.proofs.Common.{ap, sym, ◌∙◌}
+use Rattle.std.proofs.Common.{sym, ◌∙◌}
 use Rattle.type_arena.specs.Meaning.{term_of}
-use Rattle.type_arena.specs.Term.{Term}
 use Rattle.type_decl.specs.Tables.{alone}
 use Rattle.local_types.specs.Entries.{type_of}
-use Rattle.rule_work.specs.Moves.{valued}
 use Rattle.rule_state.specs.Work.{work_of}
 use Rattle.rule_state.proofs.CallFacts.{meaning_kept, given_same, work_called, none_called}
 use Rattle.rule_state.proofs.state.RuleState.call.Goals as goal

@@ -1,4 +1,4 @@
-use Rattle.std.proofs.Common.{◌≡◌, ◌<◌, ◌≤◌, [], ◌∷◌, ◌++◌, ℕ, length, List, ap, sym, ◌∙◌, subst}
+use Rattle.std.proofs.Common.{◌≡◌, ◌<◌, ◌≤◌, [], ◌∷◌, ℕ, length, List, ap, sym, ◌∙◌, subst}
 use Rattle.std.specs.Prelude.{map, reverse, slice_set}
 use Rattle.std.proofs.lemmas.List.{length-map, reverse-append}
 use Rattle.report_rules.specs.Seen.{Seen}

@@ -1,5 +1,5 @@
-use Rattle.std.proofs.Common.{◌≡◌, [], ◌∷◌, ◌++◌, ℕ, List, ap, sym, ◌∙◌, subst, refl}
-use Rattle.std.specs.Prelude.{All, map, reverse}
+use Rattle.std.proofs.Common.{List, ap}
+use Rattle.std.specs.Prelude.{All, map}
 use Rattle.type_arena.specs.Term.{Term}
 use Rattle.local_types.specs.Entries.{type_of}
 use Rattle.rule_state.specs.Sound.{Stands}

@@ -1,4 +1,4 @@
-use Rattle.std.proofs.Common.{◌≡◌, [], ◌∷◌, ℕ, List, ap, sym, ◌∙◌, subst, OnOk}
+use Rattle.std.proofs.Common.{◌≡◌, [], List, ap, sym, ◌∙◌, subst, OnOk}
 use Rattle.std.specs.Prelude.{map, reverse, slice_get}
 use Rattle.std.specs.Option.{option_copied}
 use Rattle.type_arena.specs.Term.{Term}
@@ -9,7 +9,7 @@ use Rattle.rule_state.specs.Sound.{Stands}
 use Rattle.rule_work.specs.Work.{Work}
 use Rattle.rule_state.specs.Work.{work_of}
 use Rattle.rule_state.proofs.ListFacts.{first_stands, no_first, some_first, sound_unlisted, list_stands, used_is, used_none}
-use Rattle.rule_state.proofs.SoundFacts.{lists_in, ends_in, with_value}
+use Rattle.rule_state.proofs.SoundFacts.{ends_in, with_value}
 use Rattle.rule_state.proofs.state.RuleState.first_or_never.Goals as goal
 
 pub invariant_of-self : goal.invariant_of-self

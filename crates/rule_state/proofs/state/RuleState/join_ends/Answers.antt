@@ -1,9 +1,9 @@
-use Rattle.std.proofs.Common.{◌≡◌, [], ℕ, Bool, List, ap, sym, ◌∙◌, subst}
-use Rattle.std.specs.Prelude.{All, map, reverse}
+use Rattle.std.proofs.Common.{◌≡◌, ℕ, Bool, List, ap, sym, ◌∙◌, subst}
+use Rattle.std.specs.Prelude.{All, reverse}
 use Rattle.std.proofs.lemmas.List.{reverse-reverse}
 use Rattle.type_arena.specs.Term.{Term}
 use Rattle.local_types.specs.Ends.{all_dead, joining}
-use Rattle.local_types.specs.Entries.{entry_of, IsMap}
+use Rattle.local_types.specs.Entries.{IsMap}
 use Rattle.local_types.specs.declared.node.Point.{Point}
 use Rattle.report_rules.specs.TypeMap.{TypeMap}
 use Rattle.rule_work.specs.Branches.{joined_from}

@@ -1,13 +1,11 @@
-use Rattle.std.proofs.Common.{[], ◌∷◌, List, ap, sym, ◌∙◌, subst}
+use Rattle.std.proofs.Common.{[], ◌∷◌, ap, sym, ◌∙◌}
 use Rattle.std.specs.Prelude.{All, map}
 use Rattle.std.proofs.lemmas.List.Elements.{All-nil, All-same}
-use Rattle.type_arena.specs.declared.node.TypeRef.{TypeRef}
 use Rattle.local_types.specs.Entries.{IsMap}
 use Rattle.local_types.proofs.GrowFacts.{type_stays}
 use Rattle.rule_state.specs.Sound.{Stands, StandsSeen}
 use Rattle.rule_state.specs.Work.{builtins_in, work_of}
 use Rattle.local_types.specs.declared.node.Point.{Point}
-use Rattle.rule_state.specs.declared.point.Seen.{Seen}
 use Rattle.rule_state.proofs.SoundFacts.{none_given, one_given, grown_twice, stands_made, stands_on, confined_on}
 use Rattle.rule_state.proofs.WorkFacts.{work_begun}
 use Rattle.rule_state.proofs.TableFacts.{knows_on}

@@ -24,7 +24,7 @@ invariant_of-self-in-Break-branch-2 c =
     let outside = state.outside.items in
     let none = none_given state.types outside in
     let both : All (Stands t outside) (c.args.at ∷ c.in_ok-nil.nil ∷ []) = two_given t outside c.args.at c.in_ok-nil.nil (stands_on state.types t outside [] c.args.at c.plain.ensures.grows c.requires)
-        (stands_made state.types t outside [] c.in_ok-nil.nil none c.plain.ensures.grows c.in_ok-nil.ensures.there c.in_ok-nil.ensures.made) in
+    (stands_made state.types t outside [] c.in_ok-nil.nil none c.plain.ensures.grows c.in_ok-nil.ensures.there c.in_ok-nil.ensures.made) in
     record {
       at_home = state.at_home ∙ (sym c.plain.ensures.grows.home ∙ sym c.union.ensures.grows.home);
       known = known_twice state t c.union.new.self [] _ c.plain.ensures.grows c.union.ensures.grows;
@@ -38,7 +38,7 @@ invariant_of-self-2 c =
     let outside = state.outside.items in
     let none = none_given state.types outside in
     let both : All (Stands t outside) (c.args.at ∷ c.in_ok-nil.nil ∷ []) = two_given t outside c.args.at c.in_ok-nil.nil (stands_on state.types t outside [] c.args.at c.plain.ensures.grows c.requires)
-        (stands_made state.types t outside [] c.in_ok-nil.nil none c.plain.ensures.grows c.in_ok-nil.ensures.there c.in_ok-nil.ensures.made) in
+    (stands_made state.types t outside [] c.in_ok-nil.nil none c.plain.ensures.grows c.in_ok-nil.ensures.there c.in_ok-nil.ensures.made) in
     record {
       at_home = state.at_home ∙ (sym c.plain.ensures.grows.home ∙ sym c.union.ensures.grows.home);
       known = known_twice state t c.union.new.self [] _ c.plain.ensures.grows c.union.ensures.grows;
@@ -53,7 +53,7 @@ returns c =
     let outside = state.outside.items in
     let none = none_given state.types outside in
     let both : All (Stands t outside) (c.args.at ∷ c.in_ok-nil.nil ∷ []) = two_given t outside c.args.at c.in_ok-nil.nil (stands_on state.types t outside [] c.args.at c.plain.ensures.grows c.requires)
-        (stands_made state.types t outside [] c.in_ok-nil.nil none c.plain.ensures.grows c.in_ok-nil.ensures.there c.in_ok-nil.ensures.made) in
+    (stands_made state.types t outside [] c.in_ok-nil.nil none c.plain.ensures.grows c.in_ok-nil.ensures.there c.in_ok-nil.ensures.made) in
     work_valued state c.union.new.self outside c.in_ok-both.both (union (type_of state.types c.args.at) nil_type)
     (grown_twice state.types t c.union.new.self outside [] (c.args.at ∷ c.in_ok-nil.nil ∷ []) none c.plain.ensures.grows both c.union.ensures.grows)
     (c.in_ok-both.ensures.term

@@ -1,4 +1,4 @@
-use Rattle.std.proofs.Common.{◌≡◌, [], List, sym, ◌∙◌, subst, true, false}
+use Rattle.std.proofs.Common.{[], List, sym, ◌∙◌, subst, true, false}
 use Rattle.std.specs.Prelude.{All}
 use Rattle.luau_tree.specs.View.{view_expr}
 use Rattle.luau_tree.specs.declared.names.LocalId.{LocalId}
@@ -27,7 +27,7 @@ returns-then-truth c =
     let state = c.args.self.now in
     on_ok c.refine_by.result
     (λ work rules reads. refined_then c.guard_in.new.types (work_of state) _ (work_of c.refine_by.new.self) c.in_ok-guard.guard.when_true c.as_slice.result.now rules (view_expr c.args.cond.now) c.args.truth true c.as_slice.ensures
-        (work_same state c.guard_in.new.types [] c.guard_in.ensures.grows) (c.in_ok-guard.ensures.when_true rules reads) c.if-truth.true work)
+    (work_same state c.guard_in.new.types [] c.guard_in.ensures.grows) (c.in_ok-guard.ensures.when_true rules reads) c.if-truth.true work)
     c.refine_by.ensures
 
 pub refine_by-requires-else-truth : goal.refine_by-requires-else-truth
@@ -42,5 +42,5 @@ returns c =
     let state = c.args.self.now in
     on_ok c.refine_by-else-truth.result
     (λ work rules reads. refined_then c.guard_in.new.types (work_of state) _ (work_of c.refine_by-else-truth.new.self) c.in_ok-guard.guard.when_false c.as_slice-else-truth.result.now rules (view_expr c.args.cond.now) c.args.truth false c.as_slice-else-truth.ensures
-        (work_same state c.guard_in.new.types [] c.guard_in.ensures.grows) (c.in_ok-guard.ensures.when_false rules reads) c.if-truth.false work)
+    (work_same state c.guard_in.new.types [] c.guard_in.ensures.grows) (c.in_ok-guard.ensures.when_false rules reads) c.if-truth.false work)
     c.refine_by-else-truth.ensures

@@ -1,4 +1,4 @@
-use Rattle.std.proofs.Common.{◌≡◌, ℕ, Bool, ap, sym, ◌∙◌}
+use Rattle.std.proofs.Common.{ℕ, Bool, ap, sym, ◌∙◌}
 use Rattle.std.specs.Prelude.{◌||◌}
 use Rattle.type_arena.specs.Term.{Term}
 use Rattle.local_types.specs.Entries.{type_of, entry_of}

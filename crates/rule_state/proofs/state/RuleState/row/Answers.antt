@@ -1,11 +1,11 @@
-use Rattle.std.proofs.Common.{◌≡◌, [], List, ap, sym, ◌∙◌, subst}
-use Rattle.std.specs.Prelude.{All, false, IsTrue, map, reverse}
+use Rattle.std.proofs.Common.{List, ap, sym, ◌∙◌, subst}
+use Rattle.std.specs.Prelude.{All, false, IsTrue}
 use Rattle.std.proofs.lemmas.List.Elements.{All-weaker}
 use Rattle.type_arena.specs.Store.{has}
 use Rattle.type_arena.specs.Term.{Term}
 use Rattle.type_arena.specs.declared.node.TypeRef.{TypeRef}
 use Rattle.type_normal.specs.Kinds.{row_type}
-use Rattle.local_types.specs.Entries.{arenas_of, type_of}
+use Rattle.local_types.specs.Entries.{arenas_of}
 use Rattle.local_types.specs.Named.{fields_named, types_listed}
 use Rattle.rule_state.specs.Sound.{Stands}
 use Rattle.rule_state.specs.Work.{work_of}
@@ -24,14 +24,14 @@ pub invariant_of-self : goal.invariant_of-self
 invariant_of-self c =
     let state = c.args.self.now in
     let given : All (Stands state.types state.outside.items) c.as_slice.result.now = subst (All (Stands state.types state.outside.items)) (sym (c.as_slice.ensures.value ∙ c.reverse.ensures.items))
-        (all_reversed (Stands state.types state.outside.items) c.in-Some.types.items (list_stands state c.pop.new.self.items c.pop.result c.in-Some.types c.pop.ensures.items c.in-Some.is)) in
+    (all_reversed (Stands state.types state.outside.items) c.in-Some.types.items (list_stands state c.pop.new.self.items c.pop.result c.in-Some.types c.pop.ensures.items c.in-Some.is)) in
     record { at_home = state.at_home ∙ sym c.row_of.ensures.grows.home; known = known_then state c.row_of.new.self _ c.row_of.ensures.grows; sound = unlisted_same state c.row_of.new.self c.as_slice.result.now c.pop.new.self.items c.pop.result c.pop.ensures.items given c.row_of.ensures.grows }
 
 pub invariant_of-self-in-Some : goal.invariant_of-self-in-Some
 invariant_of-self-in-Some c =
     let state = c.args.self.now in
     let given : All (Stands state.types state.outside.items) c.as_slice.result.now = subst (All (Stands state.types state.outside.items)) (sym (c.as_slice.ensures.value ∙ c.reverse.ensures.items))
-        (all_reversed (Stands state.types state.outside.items) c.in-Some.types.items (list_stands state c.pop.new.self.items c.pop.result c.in-Some.types c.pop.ensures.items c.in-Some.is)) in
+    (all_reversed (Stands state.types state.outside.items) c.in-Some.types.items (list_stands state c.pop.new.self.items c.pop.result c.in-Some.types c.pop.ensures.items c.in-Some.is)) in
     record { at_home = state.at_home ∙ sym c.row_of.ensures.grows.home; known = known_then state c.row_of.new.self _ c.row_of.ensures.grows; sound = unlisted_other state c.row_of.new.self c.as_slice.result.now c.in_ok-at.at c.pop.new.self.items c.pop.result c.pop.ensures.items given c.row_of.ensures.grows c.in_ok-at.ensures.there c.in_ok-at.ensures.made }
 
 pub returns-in_ok-at : goal.returns-in_ok-at

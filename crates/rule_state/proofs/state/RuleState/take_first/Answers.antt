@@ -1,11 +1,10 @@
-use Rattle.std.proofs.Common.{◌≡◌, [], ◌∷◌, ℕ, List, ap, sym, ◌∙◌, subst, OnOk}
+use Rattle.std.proofs.Common.{◌≡◌, [], ◌∷◌, sym, ◌∙◌, subst, OnOk}
 use Rattle.std.specs.Prelude.{All, map, is_ok}
 use Rattle.std.proofs.lemmas.List.Elements.{All-head, All-tail}
-use Rattle.type_arena.specs.declared.node.TypeRef.{TypeRef}
 use Rattle.rule_state.specs.Sound.{Stands}
 use Rattle.rule_work.specs.Work.{Work}
 use Rattle.rule_state.specs.Work.{work_of}
-use Rattle.rule_state.proofs.ListFacts.{is_emptied, first_removed, list_stands, sound_unlisted, nothing_taken, one_taken, no_list_taken}
+use Rattle.rule_state.proofs.ListFacts.{is_emptied, first_removed, sound_unlisted, nothing_taken, one_taken, no_list_taken}
 use Rattle.rule_state.proofs.SoundFacts.{ends_in, with_value, with_lists}
 use Rattle.rule_state.proofs.StackFacts.{all_popped, all_pushed_or_not}
 use Rattle.rule_state.proofs.state.RuleState.take_first.Goals as goal
@@ -27,7 +26,7 @@ invariant_of-self-in-Some c =
     let first : c.in-Some.list.items ≡ c.remove-self.result ∷ c.remove-self.new.self.items = first_removed c.in-Some.list.items c.remove-self.new.self.items c.remove-self.result c.in-Some.list.len c.in-Some.list.ok.0 (sym c.is_empty.ensures ∙ c.if-is_empty.false) c.remove-self.ensures.value c.remove-self.ensures.items in
     let all : All stands (c.remove-self.result ∷ c.remove-self.new.self.items) = subst (All stands) first popped.1 in
     let lists : All (All stands) (map (λ list. list.items) c.push-in-Some.new.self.items) = all_pushed_or_not (All stands) (λ list. list.items) c.pop.new.self.items c.push-in-Some.new.self.items c.remove-self.new.self (is_ok c.push-in-Some.result) c.push-in-Some.ensures.items popped.0
-        (All-tail stands c.remove-self.result c.remove-self.new.self.items all) in
+    (All-tail stands c.remove-self.result c.remove-self.new.self.items all) in
     record {
       at_home = state.at_home;
       known = state.known;
