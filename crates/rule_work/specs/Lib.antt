@@ -1,3 +1,4 @@
+pub mod Around
 pub mod Work
 pub mod Moves
 pub mod Results

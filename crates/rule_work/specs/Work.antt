@@ -2,13 +2,12 @@
 use Rattle.std.specs.Prelude.{ℕ, List, []}
 use Rattle.type_arena.specs.Term.{Term}
 use Rattle.type_normal.specs.Kinds.{unknown}
-use Rattle.type_decl.specs.Signatures.{Signature}
 use Rattle.report_rules.specs.Seen.{Seen}
 use Rattle.report_rules.specs.TypeMap.{TypeMap, no_map}
+use Rattle.rule_work.specs.Around.{Around}
 
 -- what is at hand: a type, and a map of the locals; what was put aside of both, the last first; lists of types and of maps, the
--- innermost first; what was seen; the places in that of expressions whose type is still to come, the last first; and the
--- declared builtins, which stay
+-- innermost first; what was seen; the places in that of expressions whose type is still to come, the last first; and what stays
 pub record Work : Type 0 where
   pub value : Term
   pub held : List Term
@@ -18,8 +17,8 @@ pub record Work : Type 0 where
   pub ends : List (List TypeMap)
   pub seen : List Seen
   pub pending : List ℕ
-  pub builtins : List (List ℕ × Signature)
+  pub around : Around
 
 -- where nothing is known and nothing was seen
-abbrev pub begun : List (List ℕ × Signature) → Work
-begun builtins = record { value = unknown; held = []; lists = []; map = no_map; saved = []; ends = []; seen = []; pending = []; builtins = builtins }
+abbrev pub begun : Around → Work
+begun around = record { value = unknown; held = []; lists = []; map = no_map; saved = []; ends = []; seen = []; pending = []; around = around }
