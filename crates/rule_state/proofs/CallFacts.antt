@@ -14,7 +14,7 @@ use Rattle.local_types.specs.declared.types.LocalTypes.{LocalTypes}
 use Rattle.type_decl.specs.Tables.{alone, list_of, refs_in}
 use Rattle.type_decl.specs.declared.sig.Sig.{Sig}
 use Rattle.type_decl.specs.declared.table.SigTable.{SigTable}
-use Rattle.rule_work.specs.Calls.{called, result_of_one}
+use Rattle.rule_work.specs.Calls.{call_term, called}
 use Rattle.rule_work.specs.Moves.{made_from}
 use Rattle.rule_state.specs.Calls.{given_type, refs_given, IsDeclared}
 use Rattle.rule_state.specs.Sound.{KnowsTable}
@@ -62,19 +62,17 @@ given_same f g (OrNil at) first same = ap (λ (type : Term). union type nil_type
 given_same f g Nil first same = refl
 
 -- what a state stands for whose last that was put aside was called
-pub work_called : (old : RuleState) (rest : List TypeRef) (r : Option TypeRef) (x : TypeRef) (type : Term) → old.held.items ≡ rest ++ option_to_list r → r ≡ Some x
-    → type ≡ result_of_one (builtins_in old.table.now) (exactly_one_function (type_of old.types x)) (type_of old.types old.value)
-    → record (work_of old) { value = type; held = reverse (map (type_of old.types) rest) } ≡ called (work_of old)
+pub work_called : (old : RuleState) (id : ℕ) (rest : List TypeRef) (r : Option TypeRef) (x : TypeRef) (type : Term) → old.held.items ≡ rest ++ option_to_list r → r ≡ Some x
+    → type ≡ call_term (work_of old).around id (type_of old.types x) (type_of old.types old.value) → record (work_of old) { value = type; held = reverse (map (type_of old.types) rest) } ≡ called id (work_of old)
 unfolding work_of
-work_called old rest r x type items is same =
+work_called old id rest r x type items is same =
     ap (λ (value : Term). record (work_of old) { value = value; held = reverse (map (type_of old.types) rest) }) same
-    ∙ ap (λ (held : List Term). made_from (λ callee first. result_of_one (builtins_in old.table.now) (exactly_one_function callee) first) held (work_of old))
-    (sym (popped_last (type_of old.types) old.held.items rest r x items is))
+    ∙ ap (λ (held : List Term). made_from (call_term (work_of old).around id) held (work_of old)) (sym (popped_last (type_of old.types) old.held.items rest r x items is))
 
-pub none_called : (old : RuleState) (B : TypeRef → Type 0) (rest : List TypeRef) (r : Option TypeRef) (n m : ℕ) → old.held.items ≡ rest ++ option_to_list r → MatchOption r ((n ≡ 0) × (m ≡ 0)) B → n ≡ length old.held.items → r ≡ None
-    → record (work_of old) { held = reverse (map (type_of old.types) rest) } ≡ called (work_of old)
+pub none_called : (old : RuleState) (id : ℕ) (B : TypeRef → Type 0) (rest : List TypeRef) (r : Option TypeRef) (n m : ℕ) → old.held.items ≡ rest ++ option_to_list r → MatchOption r ((n ≡ 0) × (m ≡ 0)) B → n ≡ length old.held.items → r ≡ None
+    → record (work_of old) { held = reverse (map (type_of old.types) rest) } ≡ called id (work_of old)
 unfolding work_of
-none_called old B rest r n m items cases long is =
+none_called old id B rest r n m items cases long is =
     let none = popped_nothing (type_of old.types) B old.held.items rest r n m items cases long is in
     ap (λ (held : List Term). record (work_of old) { held = held }) none.1
-    ∙ sym (ap (λ (held : List Term). made_from (λ callee first. result_of_one (builtins_in old.table.now) (exactly_one_function callee) first) held (record (work_of old) { held = held })) none.0)
+    ∙ sym (ap (λ (held : List Term). made_from (call_term (work_of old).around id) held (record (work_of old) { held = held })) none.0)

@@ -13,11 +13,11 @@ use Rattle.report_rules.specs.TypeMap.{TypeMap, no_maps, union_of, joined}
 use Rattle.rule_work.specs.Branches.{joined_from, ends_joined}
 use Rattle.rule_state.specs.Sound.{IsSound}
 use Rattle.rule_work.specs.Work.{Work}
-use Rattle.rule_state.specs.Work.{builtins_in, map_of, work_of}
+use Rattle.rule_state.specs.Work.{map_of, work_of}
 use Rattle.rule_state.specs.declared.state.RuleState.{RuleState}
 use Rattle.rule_state.proofs.SoundFacts.{lists_in, ends_in, with_ends, with_point, sound_on, none_given}
 use Rattle.rule_state.proofs.StackFacts.{popped_list, all_popped, all_rest}
-use Rattle.rule_state.proofs.WorkFacts.{work_parts, parts_stay}
+use Rattle.rule_state.proofs.WorkFacts.{around_on, around_stays, work_parts, parts_stay}
 
 abbrev live : List TypeMap → List TypeMap
 live maps = filter (λ map. not map.dead) maps
@@ -72,9 +72,9 @@ without_ends_other old t point rest r items grows there =
 -- what a state stands for after that
 pub work_joined : (old : RuleState) (t : LocalTypes) (point : Point) (rest : List (Vec Point Global)) (r : Option (Vec Point Global)) (x : Vec Point Global) → old.ends.items ≡ rest ++ option_to_list r → r ≡ Some x → Grows old.types t []
     → map_of t point ≡ joined (map (map_of old.types) x.items)
-    → work_parts t old.value old.held.items (lists_in old) point old.saved.items (map (λ list. list.items) rest) old.seen.items old.pending.items (builtins_in old.table.now) ≡ ends_joined (work_of old)
+    → work_parts t old.value old.held.items (lists_in old) point old.saved.items (map (λ list. list.items) rest) old.seen.items old.pending.items (around_on t old) ≡ ends_joined (work_of old)
 unfolding work_of
 work_joined old t point rest r x items is grows same =
-    ap (λ (work : Work). record work { map = map_of t point }) (parts_stay old.types t old.outside.items [] old.value old.held.items (lists_in old) old.point old.saved.items (map (λ list. list.items) rest) old.seen.items old.pending.items (builtins_in old.table.now) grows (sound_without_ends old rest r items))
+    ap (λ (work : Work). record work { map = map_of t point }) (parts_stay old.types t old.outside.items [] old.value old.held.items (lists_in old) old.point old.saved.items (map (λ list. list.items) rest) old.seen.items old.pending.items (around_on old.types old) (around_on t old) (around_stays old t [] grows) grows (sound_without_ends old rest r items))
     ∙ (ap (λ (known : TypeMap). record (work_of old) { map = known; ends = reverse (map (map (map_of old.types)) (map (λ list. list.items) rest)) }) same
     ∙ ap (λ (ends : List (List TypeMap)). joined_from ends (work_of old)) (sym (popped_list (map_of old.types) (λ list. list.items) old.ends.items rest r x items is)))

@@ -17,11 +17,11 @@ use Rattle.report_rules.specs.TypeMap.{not_given}
 use Rattle.rule_work.specs.Listed.{used_from, used, first_taken_from, first_taken}
 use Rattle.rule_work.specs.Moves.{valued}
 use Rattle.rule_state.specs.Sound.{Stands, IsSound}
-use Rattle.rule_state.specs.Work.{builtins_in, work_of}
+use Rattle.rule_state.specs.Work.{work_of}
 use Rattle.rule_state.specs.declared.state.RuleState.{RuleState}
 use Rattle.rule_state.proofs.SoundFacts.{lists_in, ends_in, with_lists, sound_on, sound_valued}
 use Rattle.rule_state.proofs.StackFacts.{pushed_list, popped_list, popped_no_list, all_popped, all_rest}
-use Rattle.rule_state.proofs.WorkFacts.{work_parts, parts_stay}
+use Rattle.rule_state.proofs.WorkFacts.{around_on, around_stays, work_parts, parts_stay}
 
 -- lists in reverse
 pub map_reversed : {X Y : Type 0} (f : X → Y) (xs : List X) → reverse (map f xs) ≡ map f (reverse xs)
@@ -105,10 +105,10 @@ used_none f B old rest r n m items cases long is =
 
 pub work_used : (f : List Term → Term → Term) (old : RuleState) (t : LocalTypes) (given : List TypeRef) (at : TypeRef) (rest : List (Vec TypeRef Global)) (r : Option (Vec TypeRef Global)) (x : Vec TypeRef Global) → old.lists.items ≡ rest ++ option_to_list r → r ≡ Some x → Grows old.types t given
     → type_of t at ≡ f (map (type_of old.types) x.items) (type_of old.types old.value)
-    → work_parts t at old.held.items (map (λ list. list.items) rest) old.point old.saved.items (ends_in old) old.seen.items old.pending.items (builtins_in old.table.now) ≡ used f (work_of old)
+    → work_parts t at old.held.items (map (λ list. list.items) rest) old.point old.saved.items (ends_in old) old.seen.items old.pending.items (around_on t old) ≡ used f (work_of old)
 unfolding work_of
 work_used f old t given at rest r x items is grows term =
-    ap (valued (type_of t at)) (parts_stay old.types t old.outside.items given old.value old.held.items (map (λ list. list.items) rest) old.point old.saved.items (ends_in old) old.seen.items old.pending.items (builtins_in old.table.now) grows (sound_unlisted old rest r items))
+    ap (valued (type_of t at)) (parts_stay old.types t old.outside.items given old.value old.held.items (map (λ list. list.items) rest) old.point old.saved.items (ends_in old) old.seen.items old.pending.items (around_on old.types old) (around_on t old) (around_stays old t given grows) grows (sound_unlisted old rest r items))
     ∙ (ap (λ (type : Term). record (work_of old) { value = type; lists = reverse (map (map (type_of old.types)) (map (λ list. list.items) rest)) }) term
     ∙ used_is f old rest r x items is)
 

@@ -1,4 +1,6 @@
 -- What stands in the arena of a state, and which homes it leads to.
+use Rattle.std.specs.BTreeMap.{BTreeMap, get}
+use Rattle.std.specs.Ordering.{nat_cmp}
 use Rattle.std.specs.Prelude.{◌≡◌, ◌≢◌, ℕ, Bool, List, [], ◌∷◌, Some, All, IsTrue}
 use Rattle.type_arena.specs.Arena.{home_of, store_of}
 use Rattle.type_arena.specs.Homes.{literal_homes}
@@ -42,6 +44,15 @@ IsConfined types outside = (test : ℕ → Bool) → StartsWithin test (arena_of
 pub record KnowsTable (types : LocalTypes) (outside : List TypeRef) (table : SigTable) : Type 0 where
   pub keeps : Keeps (alone table.arena) (arenas_of types)
   pub stand : All (λ sig. All (Stands types outside) (refs_in sig)) table.sigs
+
+-- the types of what static requires give stand there
+abbrev pub KnowsImports : LocalTypes → (outside : List TypeRef) → (imports : BTreeMap ℕ TypeRef) → Type 0
+KnowsImports types outside imports = (id : ℕ) (at : TypeRef) → get nat_cmp imports id ≡ Some at → Stands types outside at
+
+-- what came from elsewhere is known
+pub record Knows (types : LocalTypes) (outside : List TypeRef) (table : SigTable) (imports : BTreeMap ℕ TypeRef) : Type 0 where
+  pub declared : KnowsTable types outside table
+  pub imported : KnowsImports types outside imports
 
 -- all that is at hand stands there
 pub record IsSound (types : LocalTypes) (outside : List TypeRef) (value : TypeRef) (held : List TypeRef) (lists : List (List TypeRef))

@@ -1,7 +1,11 @@
 -- What a state stands for, as plain types and maps.
-use Rattle.std.specs.Prelude.{ℕ, List, map, reverse}
+use Rattle.std.specs.BTreeMap.{BTreeMap, get}
+use Rattle.std.specs.Ordering.{nat_cmp}
+use Rattle.std.specs.Prelude.{ℕ, List, Option, option_map, map, reverse}
+use Rattle.type_arena.specs.Arena.{below_of}
+use Rattle.type_arena.specs.Term.{Term}
 use Rattle.type_arena.specs.declared.node.TypeRef.{TypeRef}
-use Rattle.local_types.specs.Entries.{type_of, entry_of}
+use Rattle.local_types.specs.Entries.{arena_of, type_of, entry_of}
 use Rattle.local_types.specs.declared.types.LocalTypes.{LocalTypes}
 use Rattle.local_types.specs.declared.node.Point.{Point}
 use Rattle.report_rules.specs.Seen.{Seen, SeenExpr, SeenBody}
@@ -9,6 +13,7 @@ use Rattle.report_rules.specs.TypeMap.{TypeMap}
 use Rattle.type_decl.specs.Signatures.{Signature}
 use Rattle.type_decl.specs.Tables.{declared_in}
 use Rattle.type_decl.specs.declared.table.SigTable.{SigTable}
+use Rattle.rule_work.specs.Around.{Around}
 use Rattle.rule_work.specs.Work.{Work}
 use Rattle.rule_state.specs.declared.point.Seen.{Seen as SeenRef}
 use Rattle.rule_state.specs.declared.point.Seen.TheVariants.{Expr, Body}
@@ -17,6 +22,20 @@ use Rattle.rule_state.specs.declared.state.RuleState.{RuleState}
 -- the builtins that a table declares, with their signatures
 abbrev pub builtins_in : SigTable → List (List ℕ × Signature)
 builtins_in table = declared_in table.arena table.paths table.sigs
+
+-- what static requires give, by the numbers of their calls
+abbrev pub imports_in : LocalTypes → BTreeMap ℕ TypeRef → ℕ → Option Term
+imports_in types imports id = option_map (type_of types) (get nat_cmp imports id)
+
+-- what stays
+abbrev pub around_in : LocalTypes → (home : ℕ) → (outside : List TypeRef) → SigTable → (imports : BTreeMap ℕ TypeRef) → Around
+around_in types home outside table imports = record {
+  home = home;
+  below = below_of (arena_of types);
+  outside = outside;
+  builtins = builtins_in table;
+  imports = imports_in types imports;
+}
 
 -- a point as a map
 abbrev pub map_of : LocalTypes → Point → TypeMap
@@ -38,7 +57,7 @@ work_of state = record {
   ends = reverse (map (map (map_of state.types)) (map (λ list. list.items) state.ends.items));
   seen = map (seen_of state.types) state.seen.items;
   pending = reverse state.pending.items;
-  builtins = builtins_in state.table.now;
+  around = around_in state.types state.home state.outside.items state.table.now state.imports;
 }
 
 -- what was seen, with another type

@@ -10,7 +10,7 @@ ghost use Rattle.type_normal.specs.Operations.{union as union_term};
 ghost use Rattle.local_types.specs.Entries.{arenas_of, type_of};
 ghost use Rattle.type_decl.specs.Tables.{alone, refs_in};
 ghost use Rattle.report_rules.specs.Forward.{first_result};
-ghost use Rattle.rule_work.specs.Calls.{called, result_of_one};
+ghost use Rattle.rule_work.specs.Calls.{call_term, called, result_of_one};
 ghost use Rattle.rule_state.specs.Calls.{given_type, refs_given, IsDeclared};
 ghost use Rattle.rule_work.specs.Moves.{valued};
 ghost use Rattle.rule_state.specs.Sound.{Stands};
@@ -18,6 +18,7 @@ ghost use Rattle.rule_state.specs.Work.{builtins_in, work_of};
 
 use crate::state::RuleState;
 use local_types::LocalTypes;
+use luau_tree::ExprId;
 use std::alloc::AllocError;
 use type_arena::{FnName, Label, TypeRef};
 use type_decl::{Sig, SigTable};
@@ -34,15 +35,27 @@ pub(crate) enum Gives {
 }
 
 impl<'a> RuleState<'a> {
-    /// The result of a call: the callee was put aside last, and the type at hand is that of the first argument.
-    pub fn call(&mut self) -> Result<(), AllocError>
-        ensures { OnOk result (work_of self.new ≡ called (work_of self.old)) }
+    /// The result of a call, by its number: the callee was put aside last, and the type at hand is that of the first argument.
+    pub fn call(&mut self, id: ExprId) -> Result<(), AllocError>
+        ensures { OnOk result (work_of self.new ≡ called id.0 (work_of self.old)) }
     {
         if let Some(callee) = self.held.pop() {
-            let gives = gives_of(&self.types, self.table, callee);
+            let gives = self.gives_at(id, callee);
             self.given(gives)?;
         }
         Ok(())
+    }
+
+    // What the call with a number gives: a static require what its module does, another call what the callee does.
+    fn gives_at(&self, id: ExprId, callee: TypeRef) -> Gives
+        requires { IsTrue (has_node (arenas_of self.now.types) callee) }
+        ensures result { (first : Term) → given_type (type_of self.now.types) result first ≡ call_term (work_of self.now).around id.0 (type_of self.now.types callee) first }
+        ensures stand { All (Stands self.now.types self.now.outside.items) (refs_given result) }
+    {
+        match self.imports.get(&id.0) {
+            Some(at) => Gives::Exactly(*at),
+            None => gives_of(&self.types, self.table, callee),
+        }
     }
 
     // The type at hand is what a call gives that is called with it.

@@ -42,7 +42,7 @@ impl<'a> RuleState<'a> {
 
     /// The functions of a literal, by the number of its body.
     pub fn literal(&mut self, body: FnId) -> Result<(), AllocError>
-        ensures { OnOk result (work_of self.new ≡ valued (named_term (literal_name self.old.home body.0)) (work_of self.old)) }
+        ensures { OnOk result (work_of self.new ≡ valued (named_term (literal_name (work_of self.old).around.home body.0)) (work_of self.old)) }
     {
         let at = self.types.literal(self.alloc, self.home, body.0)?;
         self.value = at;
