@@ -7,7 +7,7 @@ use Rattle.type_arena.specs.Store.{has}
 use Rattle.type_arena.specs.Term.{Term}
 use Rattle.type_arena.specs.declared.node.TypeRef.{TypeRef}
 use Rattle.type_arena.proofs.MeaningLemmas.{term_of-kept}
-use Rattle.type_normal.specs.Kinds.{exactly_one_function, nil_type}
+use Rattle.type_normal.specs.Kinds.{nil_type}
 use Rattle.type_normal.specs.Operations.{union}
 use Rattle.local_types.specs.Entries.{arena_of, arenas_of, type_of}
 use Rattle.local_types.specs.declared.types.LocalTypes.{LocalTypes}
@@ -18,7 +18,7 @@ use Rattle.rule_work.specs.Calls.{call_term, called}
 use Rattle.rule_work.specs.Moves.{made_from}
 use Rattle.rule_state.specs.Calls.{given_type, refs_given, IsDeclared}
 use Rattle.rule_state.specs.Sound.{KnowsTable}
-use Rattle.rule_state.specs.Work.{builtins_in, work_of}
+use Rattle.rule_state.specs.Work.{work_of}
 use Rattle.rule_state.specs.declared.calls.Gives.{Gives}
 use Rattle.rule_state.specs.declared.calls.Gives.TheVariants.{Anything, Frozen, Exactly, OrNil, Nil}
 use Rattle.rule_state.specs.declared.state.RuleState.{RuleState}

@@ -1,7 +1,7 @@
 //! The state in which the rules of a module are applied: the type at hand, what is known of the locals, and what was seen.
 //!
-//! Contracts speak of plain types and maps (`specs/Work.antt`), and of what each call makes of them (`specs/Moves.antt`);
-//! how types lie in an arena is no part of them.
+//! Contracts speak of plain types and maps, for which a state stands (`specs/Work.antt`), and of what each call makes of them
+//! (`rule_work`); how types lie in an arena is no part of them. What stays is known from `RuleState::new` on.
 #![tactic(auto)]
 
 mod answers;

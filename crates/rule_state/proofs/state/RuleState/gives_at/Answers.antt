@@ -1,17 +1,13 @@
-use Rattle.std.proofs.Common.{◌≡◌, [], ◌∷◌, ℕ, ap, sym, ◌∙◌, subst}
-use Rattle.std.specs.BTreeMap.{get}
-use Rattle.std.specs.Ordering.{nat_cmp}
-use Rattle.std.specs.Prelude.{All, Option, Some, None, option_map, unwrap_or}
+use Rattle.std.proofs.Common.{ap, sym, ◌∙◌}
+use Rattle.std.specs.Prelude.{Option, option_map, unwrap_or}
 use Rattle.type_arena.specs.Meaning.{term_of}
-use Rattle.type_arena.specs.Term.{Term}
 use Rattle.type_arena.specs.declared.node.TypeRef.{TypeRef}
 use Rattle.type_normal.specs.Kinds.{exactly_one_function}
 use Rattle.type_decl.specs.Tables.{alone}
 use Rattle.local_types.specs.Entries.{type_of}
 use Rattle.rule_work.specs.Calls.{result_of_one}
-use Rattle.rule_state.specs.Sound.{Stands}
 use Rattle.rule_state.specs.Work.{builtins_in, work_of}
-use Rattle.rule_state.proofs.CallFacts.{meaning_kept, given_same, declared_hold}
+use Rattle.rule_state.proofs.CallFacts.{meaning_kept, given_same}
 use Rattle.rule_state.proofs.SoundFacts.{one_given}
 use Rattle.rule_state.proofs.state.RuleState.gives_at.Goals as goal
 
