@@ -3,3 +3,10 @@ pub mod SoundFacts
 pub mod WorkFacts
 pub mod SeenFacts
 pub mod OtherFacts
+pub mod TableFacts
+pub mod ListFacts
+pub mod EndFacts
+pub mod GuardedFacts
+pub mod RefinedFacts
+pub mod CallFacts
+pub mod UnionFacts

@@ -1,13 +1,13 @@
 -- A type is below all values but those of no other kind where it has none of these.
 use Rattle.std.proofs.Common.{◌≡◌, List, [], ◌∷◌, refl, sym, ap, ◌∙◌}
-use Rattle.std.specs.Prelude.{Bool, true, false, not, Some, if◌then◌else◌, ◌&&◌, ◌||◌}
+use Rattle.std.specs.Prelude.{Bool, true, false, not, Some, if◌then◌else◌, ◌&&◌}
 use Rattle.std.specs.List.{list_all}
 use Rattle.std.specs.declared.cmp.Ordering.{Ordering}
 use Rattle.luau_tree.specs.declared.names.BinOp.{BinOp}
 use Rattle.luau_tree.specs.declared.names.BinOp.TheVariants.{Or, And, Add, Sub, Mul, Div, FloorDiv, Mod, Pow, Less, Greater, LessEqual, GreaterEqual, NotEqual, Equal, Concat}
 use Rattle.luau_tree.specs.declared.names.UnOp.{UnOp}
 use Rattle.luau_tree.specs.declared.names.UnOp.TheVariants.{Minus, Not, Length}
-use Rattle.type_arena.specs.Term.{Members, only, all_but, Free, Term, term, Rows, no_rows, more_rows, Fields}
+use Rattle.type_arena.specs.Term.{Members, only, all_but, Term, term, Rows, no_rows, more_rows, Fields}
 use Rattle.type_arena.specs.Meaning.{term_of, term_by}
 use Rattle.type_arena.specs.Store.{Store, IsSound, node_at}
 use Rattle.type_arena.specs.declared.node.Node.{Node}
@@ -16,9 +16,9 @@ use Rattle.type_arena.proofs.MeaningLemmas.{term_of-node}
 use Rattle.type_normal.specs.Free.{name_cmp, function_cmp}
 use Rattle.type_normal.specs.Members.{has_member}
 use Rattle.type_normal.specs.Rows.{any_table}
-use Rattle.subtype_check.specs.Below.{is_subset, implies, free_below, each_row, rows_above, below}
+use Rattle.subtype_check.specs.Below.{is_subset, implies, each_row, rows_above, below}
 use Rattle.report_rules.specs.Forward.{not_other, both_known, unary_type, binary_type}
-use Rattle.rule_state.specs.Results.{result_term, unary_result_term}
+use Rattle.rule_work.specs.Results.{result_term, unary_result_term}
 
 -- all members are among all
 none_out : {X : Type 0} (cmp : X → X → Ordering) (xs : List X) → list_all (λ x. not (has_member cmp x [])) xs ≡ true

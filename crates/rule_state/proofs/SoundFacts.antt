@@ -1,16 +1,17 @@
 -- What stands in the arena of a state stands there after calls.
-use Rattle.std.proofs.Common.{◌≡◌, ℕ, List, [], ◌∷◌, ◌++◌, refl, sym, ap, ◌∙◌, subst}
+use Rattle.std.proofs.Common.{◌≡◌, ℕ, List, [], ◌∷◌, ◌++◌, ap, ◌∙◌, subst, sym}
 use Rattle.std.specs.Prelude.{Bool, All, IsTrue, map, Option, Some, option_to_list}
 use Rattle.std.proofs.lemmas.List.Elements.{All-nil, All-cons, All-weaker, All-pop}
-use Rattle.type_arena.specs.Arena.{home_of}
 use Rattle.type_arena.specs.Store.{has}
+use Rattle.type_arena.specs.declared.arena.Arena.{Arena}
 use Rattle.type_arena.specs.declared.node.TypeRef.{TypeRef}
 use Rattle.local_types.specs.Entries.{arena_of, arenas_of, IsMap}
-use Rattle.local_types.specs.Growing.{HaveHomes, AreWithin, IsMadeOf, Grows}
+use Rattle.local_types.specs.Growing.{HaveHomes, StaysWithin, AreWithin, IsMadeOf, Grows}
 use Rattle.local_types.specs.declared.types.LocalTypes.{LocalTypes}
 use Rattle.local_types.proofs.GrowFacts.{type_stands, map_stands, grows_less, grows_then}
+use Rattle.rule_state.specs.Answers.{StayWithin}
 use Rattle.rule_state.specs.Sound.{Stands, types_in, StandsSeen, StartsWithin, IsConfined, IsSound}
-use Rattle.rule_state.specs.declared.point.Point.{Point}
+use Rattle.local_types.specs.declared.node.Point.{Point}
 use Rattle.rule_state.specs.declared.point.Seen.{Seen}
 use Rattle.rule_state.specs.declared.state.RuleState.{RuleState}
 
@@ -256,3 +257,14 @@ then_other state t u given more at stand grows stand_more grows_more there made 
 -- what a map has stands
 pub got_stands : (s : LocalTypes) (outside : List TypeRef) (at : TypeRef) → IsTrue (has (arenas_of s) at) → IsMadeOf s [] at → Stands s outside at
 got_stands s outside at there made = record { there = there; made = λ test within homes. made test within (All-nil (λ (r : TypeRef). IsTrue (test r.home))) }
+
+-- what is handed over of a state stays within homes within which it started
+pub handed_within : (state : RuleState) (arena : Arena) (test : ℕ → Bool) → arena ≡ arena_of state.types → StartsWithin test arena → HaveHomes test state.outside.items → StayWithin test arena state.value state.seen.items
+handed_within state arena test is starts homes =
+    let within : AreWithin test state.types = state.sound.confined test (subst (StartsWithin test) is starts) homes in
+    record {
+      stays = subst (StaysWithin test) (sym is) within.arena;
+      value = state.sound.value_stands.made test within homes;
+      seen = All-weaker (StandsSeen state.types state.outside.items) (λ one. HaveHomes test (types_in one))
+          (λ one stand. All-weaker (Stands state.types state.outside.items) (λ (at : TypeRef). IsTrue (test at.home)) (λ at stands. stands.made test within homes) (types_in one) stand) state.seen.items state.sound.seen_stand;
+    }

@@ -1,8 +1,8 @@
 -- Stacks: lists whose last element comes first in what they stand for.
-use Rattle.std.proofs.Common.{◌≡◌, ℕ, suc, List, [], ◌∷◌, ◌++◌, length, refl, sym, ap, ◌∙◌, subst, arith}
+use Rattle.std.proofs.Common.{◌≡◌, ℕ, List, [], ◌∷◌, ◌++◌, length, refl, sym, ap, ◌∙◌, subst, arith}
 use Rattle.std.specs.Prelude.{Bool, true, false, if◌then◌else◌, All, map, reverse, Option, Some, None, option_to_list, MatchOption}
 use Rattle.std.proofs.lemmas.List.Elements.{All-push, All-pop}
-use Rattle.rule_state.specs.Moves.{rest_of}
+use Rattle.rule_work.specs.Moves.{rest_of}
 use Rattle.std.proofs.lemmas.List.{reverse-append, map-append, append-nil}
 
 pub pushed_last : {X Y : Type 0} (f : X → Y) (old new : List X) (x : X) → new ≡ old ++ x ∷ [] → reverse (map f new) ≡ f x ∷ reverse (map f old)

@@ -1,4 +1,5 @@
 pub mod Work
-pub mod Moves
 pub mod Sound
-pub mod Results
+pub mod Conditions
+pub mod Calls
+pub mod Answers

@@ -1,15 +1,19 @@
 -- What stands in the arena of a state, and which homes it leads to.
+use Rattle.std.specs.BTreeMap.{BTreeMap, get}
+use Rattle.std.specs.Ordering.{nat_cmp}
 use Rattle.std.specs.Prelude.{◌≡◌, ◌≢◌, ℕ, Bool, List, [], ◌∷◌, Some, All, IsTrue}
 use Rattle.type_arena.specs.Arena.{home_of, store_of}
 use Rattle.type_arena.specs.Homes.{literal_homes}
-use Rattle.type_arena.specs.Store.{node_at, has, refs_of}
+use Rattle.type_arena.specs.Store.{Keeps, node_at, has, refs_of}
 use Rattle.type_arena.specs.declared.arena.Arena.{Arena}
 use Rattle.type_arena.specs.declared.node.Node.{Node}
 use Rattle.type_arena.specs.declared.node.TypeRef.{TypeRef}
+use Rattle.type_decl.specs.Tables.{alone, refs_in}
+use Rattle.type_decl.specs.declared.table.SigTable.{SigTable}
 use Rattle.local_types.specs.Entries.{arena_of, arenas_of, IsMap}
 use Rattle.local_types.specs.Growing.{HaveHomes, AreWithin, IsMadeOf}
 use Rattle.local_types.specs.declared.types.LocalTypes.{LocalTypes}
-use Rattle.rule_state.specs.declared.point.Point.{Point}
+use Rattle.local_types.specs.declared.node.Point.{Point}
 use Rattle.rule_state.specs.declared.point.Seen.{Seen}
 use Rattle.rule_state.specs.declared.point.Seen.TheVariants.{Expr, Body}
 
@@ -35,6 +39,20 @@ pub record StartsWithin (test : ℕ → Bool) (arena : Arena) : Type 0 where
 -- types lead to no home but their own, and those to which the arenas below and what came from elsewhere lead
 abbrev pub IsConfined : LocalTypes → List TypeRef → Type 0
 IsConfined types outside = (test : ℕ → Bool) → StartsWithin test (arena_of types) → HaveHomes test outside → AreWithin test types
+
+-- the arena of the declared builtins is among those of the types, and the builtins' types stand there
+pub record KnowsTable (types : LocalTypes) (outside : List TypeRef) (table : SigTable) : Type 0 where
+  pub keeps : Keeps (alone table.arena) (arenas_of types)
+  pub stand : All (λ sig. All (Stands types outside) (refs_in sig)) table.sigs
+
+-- the types of what static requires give stand there
+abbrev pub KnowsImports : LocalTypes → (outside : List TypeRef) → (imports : BTreeMap ℕ TypeRef) → Type 0
+KnowsImports types outside imports = (id : ℕ) (at : TypeRef) → get nat_cmp imports id ≡ Some at → Stands types outside at
+
+-- what came from elsewhere is known
+pub record Knows (types : LocalTypes) (outside : List TypeRef) (table : SigTable) (imports : BTreeMap ℕ TypeRef) : Type 0 where
+  pub declared : KnowsTable types outside table
+  pub imported : KnowsImports types outside imports
 
 -- all that is at hand stands there
 pub record IsSound (types : LocalTypes) (outside : List TypeRef) (value : TypeRef) (held : List TypeRef) (lists : List (List TypeRef))

@@ -1,34 +1,41 @@
--- What is at hand while the rules of a module are applied, as plain types and maps.
-use Rattle.std.specs.Prelude.{ℕ, Bool, List, [], map, reverse}
-use Rattle.luau_tree.specs.declared.names.ExprId.{ExprId}
-use Rattle.luau_tree.specs.declared.names.FnId.{FnId}
+-- What a state stands for, as plain types and maps.
+use Rattle.std.specs.BTreeMap.{BTreeMap, get}
+use Rattle.std.specs.Ordering.{nat_cmp}
+use Rattle.std.specs.Prelude.{ℕ, List, Option, option_map, map, reverse}
+use Rattle.type_arena.specs.Arena.{below_of}
 use Rattle.type_arena.specs.Term.{Term}
 use Rattle.type_arena.specs.declared.node.TypeRef.{TypeRef}
-use Rattle.type_normal.specs.Kinds.{unknown}
-use Rattle.local_types.specs.Entries.{type_of, entry_of}
+use Rattle.local_types.specs.Entries.{arena_of, type_of, entry_of}
 use Rattle.local_types.specs.declared.types.LocalTypes.{LocalTypes}
+use Rattle.local_types.specs.declared.node.Point.{Point}
 use Rattle.report_rules.specs.Seen.{Seen, SeenExpr, SeenBody}
-use Rattle.report_rules.specs.TypeMap.{TypeMap, no_map}
-use Rattle.rule_state.specs.declared.point.Point.{Point}
+use Rattle.report_rules.specs.TypeMap.{TypeMap}
+use Rattle.type_decl.specs.Signatures.{Signature}
+use Rattle.type_decl.specs.Tables.{declared_in}
+use Rattle.type_decl.specs.declared.table.SigTable.{SigTable}
+use Rattle.rule_work.specs.Around.{Around}
+use Rattle.rule_work.specs.Work.{Work}
 use Rattle.rule_state.specs.declared.point.Seen.{Seen as SeenRef}
 use Rattle.rule_state.specs.declared.point.Seen.TheVariants.{Expr, Body}
 use Rattle.rule_state.specs.declared.state.RuleState.{RuleState}
 
--- what is at hand: a type, and a map of the locals; what was put aside of both, the last first; lists of types and of maps, the
--- innermost first; what was seen; and the places in that of expressions whose type is still to come, the last first
-pub record Work : Type 0 where
-  pub value : Term
-  pub held : List Term
-  pub lists : List (List Term)
-  pub map : TypeMap
-  pub saved : List TypeMap
-  pub ends : List (List TypeMap)
-  pub seen : List Seen
-  pub pending : List ℕ
+-- the builtins that a table declares, with their signatures
+abbrev pub builtins_in : SigTable → List (List ℕ × Signature)
+builtins_in table = declared_in table.arena table.paths table.sigs
 
--- where nothing is known and nothing was seen
-abbrev pub begun : Work
-begun = record { value = unknown; held = []; lists = []; map = no_map; saved = []; ends = []; seen = []; pending = [] }
+-- what static requires give, by the numbers of their calls
+abbrev pub imports_in : LocalTypes → BTreeMap ℕ TypeRef → ℕ → Option Term
+imports_in types imports id = option_map (type_of types) (get nat_cmp imports id)
+
+-- what stays
+abbrev pub around_in : LocalTypes → (home : ℕ) → (outside : List TypeRef) → SigTable → (imports : BTreeMap ℕ TypeRef) → Around
+around_in types home outside table imports = record {
+  home = home;
+  below = below_of (arena_of types);
+  outside = outside;
+  builtins = builtins_in table;
+  imports = imports_in types imports;
+}
 
 -- a point as a map
 abbrev pub map_of : LocalTypes → Point → TypeMap
@@ -50,6 +57,7 @@ work_of state = record {
   ends = reverse (map (map (map_of state.types)) (map (λ list. list.items) state.ends.items));
   seen = map (seen_of state.types) state.seen.items;
   pending = reverse state.pending.items;
+  around = around_in state.types state.home state.outside.items state.table.now state.imports;
 }
 
 -- what was seen, with another type

@@ -4,11 +4,11 @@ ghost use Rattle.type_arena.specs.Term.{literal as literal_name};
 ghost use Rattle.type_normal.specs.Field.{with_row_field as with_field_term};
 ghost use Rattle.type_normal.specs.HeapFree.{widen_at as widen_at_term};
 ghost use Rattle.type_normal.specs.Kinds.{named_type as named_term};
-ghost use Rattle.rule_state.specs.Moves.{valued, mapped, known_of, set_as};
+ghost use Rattle.rule_work.specs.Moves.{valued, mapped, known_of, set_as};
 ghost use Rattle.rule_state.specs.Work.{work_of};
 
-use crate::point::Point;
 use crate::state::RuleState;
+use local_types::Point;
 use luau_tree::{FnId, LocalId};
 use std::alloc::AllocError;
 use type_arena::Label;
@@ -42,7 +42,7 @@ impl<'a> RuleState<'a> {
 
     /// The functions of a literal, by the number of its body.
     pub fn literal(&mut self, body: FnId) -> Result<(), AllocError>
-        ensures { OnOk result (work_of self.new ≡ valued (named_term (literal_name self.old.home body.0)) (work_of self.old)) }
+        ensures { OnOk result (work_of self.new ≡ valued (named_term (literal_name (work_of self.old).around.home body.0)) (work_of self.old)) }
     {
         let at = self.types.literal(self.alloc, self.home, body.0)?;
         self.value = at;

@@ -2,12 +2,11 @@
 ghost use Rattle.std.specs.Prelude.{◌≡◌, OnOk};
 ghost use Rattle.report_rules.specs.Forward.{after_part};
 ghost use Rattle.report_rules.specs.TypeMap.{ended as ended_map, widened_at};
-ghost use Rattle.rule_state.specs.Moves.{mapped, kept_map, restored, ends_begun, end_added};
+ghost use Rattle.rule_work.specs.Moves.{mapped, kept_map, restored, ends_begun, end_added};
 ghost use Rattle.rule_state.specs.Work.{work_of};
 
-use crate::point::Point;
 use crate::state::RuleState;
-use local_types::Change;
+use local_types::{Change, Point};
 use std::alloc::AllocError;
 use type_arena::Label;
 

@@ -1,7 +1,7 @@
 //! What was seen.
 ghost use Rattle.std.specs.Prelude.{◌≡◌, not, OnOk};
 ghost use Rattle.report_rules.specs.Seen.{SeenBody};
-ghost use Rattle.rule_state.specs.Moves.{with_seen, opened, closed};
+ghost use Rattle.rule_work.specs.Moves.{with_seen, opened, closed};
 ghost use Rattle.rule_state.specs.Work.{work_of, retyped_ref};
 
 use crate::point::Seen;

@@ -5,8 +5,8 @@ ghost use Rattle.type_arena.specs.Meaning.{term_of};
 ghost use Rattle.type_arena.specs.Store.{has as has_node};
 ghost use Rattle.report_rules.specs.Forward.{unary_type, binary_type, not_other};
 ghost use Rattle.type_fields.specs.Plain.{plain_term};
-ghost use Rattle.rule_state.specs.Moves.{valued, made};
-ghost use Rattle.rule_state.specs.Results.{result_term, unary_result_term};
+ghost use Rattle.rule_work.specs.Moves.{valued, made};
+ghost use Rattle.rule_work.specs.Results.{result_term, unary_result_term};
 ghost use Rattle.rule_state.specs.Work.{work_of};
 
 use crate::state::RuleState;

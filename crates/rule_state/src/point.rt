@@ -1,13 +1,5 @@
-use local_types::LocalMap;
 use luau_tree::{ExprId, FnId};
 use type_arena::TypeRef;
-
-/// What is known of the locals at a point, and whether no run comes there.
-#[derive(Clone, Copy, Debug)]
-pub struct Point {
-    pub map: LocalMap,
-    pub dead: bool,
-}
 
 /// What was seen of an expression, or of a function's body.
 #[derive(Clone, Copy, Debug)]

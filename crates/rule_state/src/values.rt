@@ -6,7 +6,7 @@ ghost use Rattle.type_normal.specs.Kinds.{text_type as text_term, named_type as 
 ghost use Rattle.type_normal.specs.Operations.{union as union_term, meet as meet_term};
 ghost use Rattle.type_fields.specs.Plain.{plain_term};
 ghost use Rattle.report_rules.specs.Forward.{property as property_term};
-ghost use Rattle.rule_state.specs.Moves.{valued, put_aside, taken, made};
+ghost use Rattle.rule_work.specs.Moves.{valued, put_aside, taken, made};
 ghost use Rattle.rule_state.specs.Work.{work_of};
 
 use crate::state::RuleState;

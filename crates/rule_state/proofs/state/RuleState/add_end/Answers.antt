@@ -1,12 +1,12 @@
-use Rattle.std.proofs.Common.{◌≡◌, [], ◌∷◌, ◌++◌, ℕ, List, ap, sym, ◌∙◌, subst, refl}
+use Rattle.std.proofs.Common.{◌≡◌, [], ◌∷◌, ◌++◌, List, ap, sym, ◌∙◌, subst}
 use Rattle.std.specs.Prelude.{All, map, reverse, is_ok}
 use Rattle.std.proofs.lemmas.List.{map-append}
 use Rattle.std.proofs.lemmas.List.Elements.{All-push}
 use Rattle.report_rules.specs.TypeMap.{TypeMap}
 use Rattle.local_types.specs.Entries.{IsMap}
-use Rattle.rule_state.specs.declared.point.Point.{Point}
+use Rattle.local_types.specs.declared.node.Point.{Point}
 use Rattle.rule_state.proofs.SoundFacts.{lists_in, ends_in, with_ends}
-use Rattle.rule_state.specs.Moves.{ended_in}
+use Rattle.rule_work.specs.Moves.{ended_in}
 use Rattle.rule_state.specs.Work.{map_of, work_of}
 use Rattle.rule_state.proofs.StackFacts.{pushed_list, popped_list, popped_no_list, all_popped, all_pushed_or_not}
 use Rattle.rule_state.proofs.state.RuleState.add_end.Goals as goal
@@ -14,14 +14,14 @@ use Rattle.rule_state.proofs.state.RuleState.add_end.Goals as goal
 pub invariant_of-self : goal.invariant_of-self
 invariant_of-self c =
     let popped = all_popped (All (λ (p : Point). IsMap c.args.self.now.types p.map)) (λ list. list.items) c.args.self.now.ends.items c.pop.new.self.items c.pop.result c.in-Some.list c.pop.ensures.items c.in-Some.is c.args.self.now.sound.ends_stand in
-    record { at_home = c.args.self.now.at_home; sound = with_ends c.args.self.now.types c.args.self.now.outside.items c.args.self.now.value c.args.self.now.held.items (lists_in c.args.self.now) c.args.self.now.point c.args.self.now.saved.items (ends_in c.args.self.now) c.args.self.now.seen.items (map (λ list. list.items) c.pop.new.self.items) c.args.self.now.sound (popped.0) }
+    record { at_home = c.args.self.now.at_home; known = c.args.self.now.known; sound = with_ends c.args.self.now.types c.args.self.now.outside.items c.args.self.now.value c.args.self.now.held.items (lists_in c.args.self.now) c.args.self.now.point c.args.self.now.saved.items (ends_in c.args.self.now) c.args.self.now.seen.items (map (λ list. list.items) c.pop.new.self.items) c.args.self.now.sound (popped.0) }
 
 pub invariant_of-self-in-Some : goal.invariant_of-self-in-Some
 invariant_of-self-in-Some c =
     let stands : Point → Type 0 = λ p. IsMap c.args.self.now.types p.map in
     let popped = all_popped (All stands) (λ list. list.items) c.args.self.now.ends.items c.pop.new.self.items c.pop.result c.in-Some.list c.pop.ensures.items c.in-Some.is c.args.self.now.sound.ends_stand in
     let longer : All stands c.push.new.self.items = subst (All stands) (sym c.in_ok-push.ensures.items) (All-push stands c.in-Some.list.items c.args.self.now.point popped.1 c.args.self.now.sound.point_stands) in
-    record { at_home = c.args.self.now.at_home; sound = with_ends c.args.self.now.types c.args.self.now.outside.items c.args.self.now.value c.args.self.now.held.items (lists_in c.args.self.now) c.args.self.now.point c.args.self.now.saved.items (ends_in c.args.self.now) c.args.self.now.seen.items (map (λ list. list.items) c.push-in-Some.new.self.items) c.args.self.now.sound (all_pushed_or_not (All stands) (λ list. list.items) c.pop.new.self.items c.push-in-Some.new.self.items c.push.new.self (is_ok c.push-in-Some.result) c.push-in-Some.ensures.items popped.0 longer) }
+    record { at_home = c.args.self.now.at_home; known = c.args.self.now.known; sound = with_ends c.args.self.now.types c.args.self.now.outside.items c.args.self.now.value c.args.self.now.held.items (lists_in c.args.self.now) c.args.self.now.point c.args.self.now.saved.items (ends_in c.args.self.now) c.args.self.now.seen.items (map (λ list. list.items) c.push-in-Some.new.self.items) c.args.self.now.sound (all_pushed_or_not (All stands) (λ list. list.items) c.pop.new.self.items c.push-in-Some.new.self.items c.push.new.self (is_ok c.push-in-Some.result) c.push-in-Some.ensures.items popped.0 longer) }
 
 pub returns-in_ok-push-2 : goal.returns-in_ok-push-2
 unfolding work_of

@@ -1,10 +1,10 @@
-use Rattle.std.proofs.Common.{[], ◌∷◌, List, ap, sym, ◌∙◌, subst}
+use Rattle.std.proofs.Common.{◌∷◌, List, ap, sym, ◌∙◌, subst}
 use Rattle.std.specs.Prelude.{All, map, reverse, is_ok}
 use Rattle.std.proofs.lemmas.List.Elements.{All-nil}
 use Rattle.report_rules.specs.TypeMap.{TypeMap}
 use Rattle.local_types.specs.Entries.{IsMap}
-use Rattle.rule_state.specs.declared.point.Point.{Point}
-use Rattle.rule_state.proofs.SoundFacts.{lists_in, ends_in, with_value, with_held, with_ends, with_point, with_saved, with_ends, with_seen, sound_on, sound_valued, none_given, one_given, two_given, same_at_hand, other_at_hand}
+use Rattle.local_types.specs.declared.node.Point.{Point}
+use Rattle.rule_state.proofs.SoundFacts.{lists_in, ends_in, with_ends, with_ends}
 use Rattle.rule_state.specs.Work.{map_of, work_of}
 use Rattle.rule_state.proofs.StackFacts.{pushed_list, all_pushed_or_not}
 use Rattle.rule_state.proofs.state.RuleState.begin_ends.Goals as goal
@@ -13,7 +13,7 @@ pub invariant_of-self : goal.invariant_of-self
 invariant_of-self c =
     let stands : Point → Type 0 = λ p. IsMap c.args.self.now.types p.map in
     let fresh = subst (All stands) (sym c.new.ensures.items) (All-nil stands) in
-    record { at_home = c.args.self.now.at_home; sound = with_ends c.args.self.now.types c.args.self.now.outside.items c.args.self.now.value c.args.self.now.held.items (lists_in c.args.self.now) c.args.self.now.point c.args.self.now.saved.items (ends_in c.args.self.now) c.args.self.now.seen.items (map (λ list. list.items) c.push.new.self.items) c.args.self.now.sound (all_pushed_or_not (All stands) (λ list. list.items) c.args.self.now.ends.items c.push.new.self.items c.new.result (is_ok c.push.result) c.push.ensures.items c.args.self.now.sound.ends_stand fresh) }
+    record { at_home = c.args.self.now.at_home; known = c.args.self.now.known; sound = with_ends c.args.self.now.types c.args.self.now.outside.items c.args.self.now.value c.args.self.now.held.items (lists_in c.args.self.now) c.args.self.now.point c.args.self.now.saved.items (ends_in c.args.self.now) c.args.self.now.seen.items (map (λ list. list.items) c.push.new.self.items) c.args.self.now.sound (all_pushed_or_not (All stands) (λ list. list.items) c.args.self.now.ends.items c.push.new.self.items c.new.result (is_ok c.push.result) c.push.ensures.items c.args.self.now.sound.ends_stand fresh) }
 
 pub returns : goal.returns
 unfolding work_of

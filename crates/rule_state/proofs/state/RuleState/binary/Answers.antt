@@ -1,7 +1,7 @@
-use Rattle.std.proofs.Common.{[], ◌∷◌, List, ap, sym, ◌∙◌, subst}
+use Rattle.std.proofs.Common.{[], List, ap, sym, ◌∙◌}
 use Rattle.type_arena.specs.Term.{Term}
 use Rattle.local_types.specs.Entries.{type_of}
-use Rattle.rule_state.specs.Moves.{made_from}
+use Rattle.rule_work.specs.Moves.{made_from}
 use Rattle.rule_state.specs.Work.{work_of}
 use Rattle.type_arena.specs.Arena.{store_of}
 use Rattle.type_arena.specs.Meaning.{term_of}
@@ -9,17 +9,19 @@ use Rattle.type_arena.specs.declared.arena.Arena.{Arena}
 use Rattle.std.specs.Prelude.{◌&&◌}
 use Rattle.subtype_check.specs.Below.{below}
 use Rattle.report_rules.specs.Forward.{not_other, binary_type}
-use Rattle.rule_state.specs.Results.{result_term}
+use Rattle.rule_work.specs.Results.{result_term}
 use Rattle.rule_state.proofs.OtherFacts.{binary_is}
 use Rattle.rule_state.proofs.SoundFacts.{none_given}
 use Rattle.rule_state.proofs.SoundFacts.{popped_same, popped_other}
 use Rattle.rule_state.proofs.StackFacts.{popped_nothing}
 use Rattle.rule_state.proofs.WorkFacts.{work_made}
+use Rattle.rule_state.proofs.TableFacts.{known_then}
 use Rattle.rule_state.proofs.state.RuleState.binary.Goals as goal
 
 pub invariant_of-self : goal.invariant_of-self
 invariant_of-self c = record {
   at_home = c.args.self.now.at_home ∙ sym c.plain.ensures.grows.home;
+  known = known_then c.args.self.now c.plain.new.self _ c.plain.ensures.grows;
   sound = popped_same c.args.self.now c.plain.new.self [] c.pop.new.self.items c.pop.result c.in-Some.left c.pop.ensures.items c.in-Some.is
       (none_given _ _) c.plain.ensures.grows;
 }
@@ -27,6 +29,7 @@ invariant_of-self c = record {
 pub invariant_of-self-in-Some : goal.invariant_of-self-in-Some
 invariant_of-self-in-Some c = record {
   at_home = c.args.self.now.at_home ∙ sym c.plain.ensures.grows.home;
+  known = known_then c.args.self.now c.plain.new.self _ c.plain.ensures.grows;
   sound = popped_other c.args.self.now c.plain.new.self [] c.pop.new.self.items c.pop.result c.in-Some.left c.in_ok-at.at c.pop.ensures.items c.in-Some.is
       (none_given _ _) c.plain.ensures.grows c.in_ok-at.ensures.there c.in_ok-at.ensures.made;
 }

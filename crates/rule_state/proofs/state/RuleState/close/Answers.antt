@@ -1,9 +1,9 @@
-use Rattle.std.proofs.Common.{◌≡◌, ◌<◌, ◌≤◌, [], ◌∷◌, ◌++◌, ℕ, length, List, ap, sym, ◌∙◌, subst}
+use Rattle.std.proofs.Common.{◌≡◌, ◌<◌, ◌≤◌, [], ◌∷◌, ℕ, length, List, ap, sym, ◌∙◌, subst}
 use Rattle.std.specs.Prelude.{map, reverse, slice_set}
 use Rattle.std.proofs.lemmas.List.{length-map, reverse-append}
 use Rattle.report_rules.specs.Seen.{Seen}
 use Rattle.local_types.specs.Entries.{type_of}
-use Rattle.rule_state.specs.Moves.{closed_from, retyped_at}
+use Rattle.rule_work.specs.Moves.{closed_from, retyped_at}
 use Rattle.rule_state.specs.Work.{seen_of, work_of, retyped_ref}
 use Rattle.rule_state.specs.declared.point.Seen.{Seen as SeenRef}
 use Rattle.rule_state.proofs.SeenFacts.{list_retyped, past_retyped}

@@ -1,9 +1,8 @@
-use Rattle.std.proofs.Common.{[], ◌∷◌, List, ap, sym}
+use Rattle.std.proofs.Common.{List, ap}
 use Rattle.type_arena.specs.Term.{Term}
 use Rattle.local_types.specs.Entries.{type_of}
-use Rattle.rule_state.specs.Moves.{taken_from}
 use Rattle.rule_state.specs.Work.{work_of}
-use Rattle.rule_state.proofs.StackFacts.{pushed_last, popped_last}
+use Rattle.rule_state.proofs.StackFacts.{pushed_last}
 use Rattle.rule_state.proofs.state.RuleState.hold.Goals as goal
 
 pub returns : goal.returns

@@ -1,7 +1,7 @@
 use Rattle.std.proofs.Common.{ap, sym, ◌∙◌}
 use Rattle.std.specs.Prelude.{Bool}
 use Rattle.type_arena.specs.Term.{Term}
-use Rattle.rule_state.specs.Moves.{valued, known_of}
+use Rattle.rule_work.specs.Moves.{valued, known_of}
 use Rattle.rule_state.specs.Work.{map_of, work_of}
 use Rattle.rule_state.proofs.state.RuleState.local.Goals as goal
 

@@ -8,10 +8,11 @@ use Rattle.type_arena.specs.declared.arena.Arena.{Arena}
 use Rattle.type_normal.specs.Field.{field_type}
 use Rattle.type_normal.specs.Kinds.{unknown}
 use Rattle.report_rules.specs.Forward.{has_strings_or_other, property}
-use Rattle.rule_state.specs.Moves.{valued}
+use Rattle.rule_work.specs.Moves.{valued}
 use Rattle.rule_state.specs.Work.{work_of}
 use Rattle.rule_state.proofs.SoundFacts.{one_given, same_at_hand, other_at_hand}
 use Rattle.rule_state.proofs.WorkFacts.{work_valued}
+use Rattle.rule_state.proofs.TableFacts.{known_then}
 use Rattle.rule_state.proofs.state.RuleState.property.Goals as goal
 
 pub returns-then-has_strings_or_other : goal.returns-then-has_strings_or_other
@@ -24,10 +25,10 @@ returns-then-has_strings_or_other c =
     (sym (ap (λ (b : Bool). if b then unknown else field_type c.args.name.now (type_of state.types state.value)) some)) c.plain.ensures
 
 pub invariant_of-self : goal.invariant_of-self
-invariant_of-self c = record { at_home = c.args.self.now.at_home ∙ sym c.field.ensures.grows.home; sound = same_at_hand c.args.self.now c.field.new.self (c.args.self.now.value ∷ []) (one_given _ _ c.args.self.now.value c.args.self.now.sound.value_stands) c.field.ensures.grows }
+invariant_of-self c = record { at_home = c.args.self.now.at_home ∙ sym c.field.ensures.grows.home; known = known_then c.args.self.now c.field.new.self _ c.field.ensures.grows; sound = same_at_hand c.args.self.now c.field.new.self (c.args.self.now.value ∷ []) (one_given _ _ c.args.self.now.value c.args.self.now.sound.value_stands) c.field.ensures.grows }
 
 pub invariant_of-self-2 : goal.invariant_of-self-2
-invariant_of-self-2 c = record { at_home = c.args.self.now.at_home ∙ sym c.field.ensures.grows.home; sound = other_at_hand c.args.self.now c.field.new.self (c.args.self.now.value ∷ []) c.in_ok-at.at (one_given _ _ c.args.self.now.value c.args.self.now.sound.value_stands) c.field.ensures.grows c.in_ok-at.ensures.there c.in_ok-at.ensures.made }
+invariant_of-self-2 c = record { at_home = c.args.self.now.at_home ∙ sym c.field.ensures.grows.home; known = known_then c.args.self.now c.field.new.self _ c.field.ensures.grows; sound = other_at_hand c.args.self.now c.field.new.self (c.args.self.now.value ∷ []) c.in_ok-at.at (one_given _ _ c.args.self.now.value c.args.self.now.sound.value_stands) c.field.ensures.grows c.in_ok-at.ensures.there c.in_ok-at.ensures.made }
 
 pub returns : goal.returns
 unfolding work_of

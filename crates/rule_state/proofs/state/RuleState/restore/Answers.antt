@@ -1,6 +1,6 @@
-use Rattle.std.proofs.Common.{[], ◌∷◌, List, ap, sym, ◌∙◌}
+use Rattle.std.proofs.Common.{List, ap, sym, ◌∙◌}
 use Rattle.report_rules.specs.TypeMap.{TypeMap}
-use Rattle.rule_state.specs.Moves.{restored_from}
+use Rattle.rule_work.specs.Moves.{restored_from}
 use Rattle.rule_state.specs.Work.{map_of, work_of}
 use Rattle.rule_state.proofs.StackFacts.{popped_last, popped_nothing}
 use Rattle.rule_state.proofs.state.RuleState.restore.Goals as goal

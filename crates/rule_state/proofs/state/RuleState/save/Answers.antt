@@ -1,4 +1,4 @@
-use Rattle.std.proofs.Common.{[], ◌∷◌, List, ap, sym, ◌∙◌}
+use Rattle.std.proofs.Common.{List, ap}
 use Rattle.report_rules.specs.TypeMap.{TypeMap}
 use Rattle.rule_state.specs.Work.{map_of, work_of}
 use Rattle.rule_state.proofs.StackFacts.{pushed_last}

@@ -1,7 +1,7 @@
-use Rattle.std.proofs.Common.{[], ◌∷◌, List, ap, sym, ◌∙◌}
+use Rattle.std.proofs.Common.{List, ap, sym, ◌∙◌}
 use Rattle.type_arena.specs.Term.{Term}
 use Rattle.local_types.specs.Entries.{type_of}
-use Rattle.rule_state.specs.Moves.{taken_from}
+use Rattle.rule_work.specs.Moves.{taken_from}
 use Rattle.rule_state.specs.Work.{work_of}
 use Rattle.rule_state.proofs.StackFacts.{popped_last, popped_nothing}
 use Rattle.rule_state.proofs.state.RuleState.take.Goals as goal

@@ -1,4 +1,4 @@
-use Rattle.std.proofs.Common.{◌≡◌, ap, sym, ◌∙◌, subst}
+use Rattle.std.proofs.Common.{◌≡◌, ap, ◌∙◌, subst}
 use Rattle.std.specs.Prelude.{OnOk}
 use Rattle.type_arena.specs.Term.{Term}
 use Rattle.local_types.specs.Entries.{type_of}
@@ -8,8 +8,8 @@ use Rattle.type_arena.specs.declared.arena.Arena.{Arena}
 use Rattle.subtype_check.specs.Below.{below}
 use Rattle.report_rules.specs.Forward.{not_other, unary_type}
 use Rattle.type_fields.specs.Plain.{plain_term}
-use Rattle.rule_state.specs.Moves.{valued}
-use Rattle.rule_state.specs.Results.{unary_result_term}
+use Rattle.rule_work.specs.Moves.{valued}
+use Rattle.rule_work.specs.Results.{unary_result_term}
 use Rattle.rule_state.specs.Work.{work_of}
 use Rattle.rule_state.proofs.OtherFacts.{unary_is}
 use Rattle.rule_state.proofs.state.RuleState.unary.Goals as goal

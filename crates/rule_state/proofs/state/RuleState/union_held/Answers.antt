@@ -1,17 +1,19 @@
-use Rattle.std.proofs.Common.{[], ◌∷◌, List, ap, sym, ◌∙◌, subst}
+use Rattle.std.proofs.Common.{[], ◌∷◌, List, ap, sym, ◌∙◌}
 use Rattle.type_arena.specs.Term.{Term}
 use Rattle.local_types.specs.Entries.{type_of}
-use Rattle.rule_state.specs.Moves.{made_from}
+use Rattle.rule_work.specs.Moves.{made_from}
 use Rattle.rule_state.specs.Work.{work_of}
 use Rattle.type_normal.specs.Operations.{union}
 use Rattle.rule_state.proofs.SoundFacts.{popped_same, popped_other, both_given}
 use Rattle.rule_state.proofs.StackFacts.{popped_nothing}
 use Rattle.rule_state.proofs.WorkFacts.{work_made}
+use Rattle.rule_state.proofs.TableFacts.{known_then}
 use Rattle.rule_state.proofs.state.RuleState.union_held.Goals as goal
 
 pub invariant_of-self : goal.invariant_of-self
 invariant_of-self c = record {
   at_home = c.args.self.now.at_home ∙ sym c.union.ensures.grows.home;
+  known = known_then c.args.self.now c.union.new.self _ c.union.ensures.grows;
   sound = popped_same c.args.self.now c.union.new.self (c.in-Some.held ∷ c.args.self.now.value ∷ []) c.pop.new.self.items c.pop.result c.in-Some.held c.pop.ensures.items c.in-Some.is
       (both_given c.args.self.now c.pop.new.self.items c.pop.result c.in-Some.held c.pop.ensures.items c.in-Some.is) c.union.ensures.grows;
 }
@@ -19,6 +21,7 @@ invariant_of-self c = record {
 pub invariant_of-self-in-Some : goal.invariant_of-self-in-Some
 invariant_of-self-in-Some c = record {
   at_home = c.args.self.now.at_home ∙ sym c.union.ensures.grows.home;
+  known = known_then c.args.self.now c.union.new.self _ c.union.ensures.grows;
   sound = popped_other c.args.self.now c.union.new.self (c.in-Some.held ∷ c.args.self.now.value ∷ []) c.pop.new.self.items c.pop.result c.in-Some.held c.in_ok-at.at c.pop.ensures.items c.in-Some.is
       (both_given c.args.self.now c.pop.new.self.items c.pop.result c.in-Some.held c.pop.ensures.items c.in-Some.is) c.union.ensures.grows c.in_ok-at.ensures.there c.in_ok-at.ensures.made;
 }

@@ -1,16 +1,17 @@
-use Rattle.std.proofs.Common.{◌≡◌, [], ◌∷◌, ap, sym, ◌∙◌}
+use Rattle.std.proofs.Common.{[], ◌∷◌, ap, sym, ◌∙◌}
 use Rattle.type_arena.specs.Term.{Term}
 use Rattle.type_normal.specs.Field.{with_row_field}
 use Rattle.type_normal.specs.HeapFree.{widen_at}
-use Rattle.local_types.specs.Entries.{type_of, entry_of}
+use Rattle.local_types.specs.Entries.{type_of}
 use Rattle.rule_state.specs.Work.{work_of}
-use Rattle.local_types.proofs.GrowFacts.{map_stands, entry_stays, type_stays, type_stands}
-use Rattle.rule_state.proofs.SoundFacts.{lists_in, ends_in, one_given, two_given, got_stands, same_at_hand, stands_made, then_same, then_other, grown_twice}
+use Rattle.local_types.proofs.GrowFacts.{map_stands, entry_stays}
+use Rattle.rule_state.proofs.SoundFacts.{one_given, two_given, got_stands, same_at_hand, stands_made, then_same, then_other, grown_twice}
 use Rattle.rule_state.proofs.WorkFacts.{work_valued}
+use Rattle.rule_state.proofs.TableFacts.{known_then, known_twice}
 use Rattle.rule_state.proofs.state.RuleState.with_field.Goals as goal
 
 pub invariant_of-self : goal.invariant_of-self
-invariant_of-self c = record { at_home = c.args.self.now.at_home ∙ sym c.widen_at.ensures.grows.home; sound = same_at_hand c.args.self.now c.widen_at.new.self (c.args.self.now.value ∷ []) (one_given _ _ c.args.self.now.value c.args.self.now.sound.value_stands) c.widen_at.ensures.grows }
+invariant_of-self c = record { at_home = c.args.self.now.at_home ∙ sym c.widen_at.ensures.grows.home; known = known_then c.args.self.now c.widen_at.new.self _ c.widen_at.ensures.grows; sound = same_at_hand c.args.self.now c.widen_at.new.self (c.args.self.now.value ∷ []) (one_given _ _ c.args.self.now.value c.args.self.now.sound.value_stands) c.widen_at.ensures.grows }
 
 pub get-tables-requires : goal.get-tables-requires
 get-tables-requires c = map_stands c.args.self.now.types c.widen_at.new.self (c.args.self.now.value ∷ []) c.widen_at.ensures.grows c.args.self.now.point.map c.args.self.now.sound.point_stands
@@ -24,6 +25,7 @@ invariant_of-self-in-Break-branch-2 c =
     let both = two_given c.widen_at.new.self state.outside.items c.in_ok-value.value c.get-tables.result value tables in
     record {
       at_home = state.at_home ∙ (sym c.widen_at.ensures.grows.home ∙ sym c.with_row_field.ensures.grows.home);
+      known = known_twice state c.widen_at.new.self c.with_row_field.new.self _ _ c.widen_at.ensures.grows c.with_row_field.ensures.grows;
       sound = then_same state c.widen_at.new.self c.with_row_field.new.self (state.value ∷ []) (c.in_ok-value.value ∷ c.get-tables.result ∷ []) given c.widen_at.ensures.grows both c.with_row_field.ensures.grows;
     }
 
@@ -36,6 +38,7 @@ invariant_of-self-2 c =
     let both = two_given c.widen_at.new.self state.outside.items c.in_ok-value.value c.get-tables.result value tables in
     record {
       at_home = state.at_home ∙ (sym c.widen_at.ensures.grows.home ∙ sym c.with_row_field.ensures.grows.home);
+      known = known_twice state c.widen_at.new.self c.with_row_field.new.self _ _ c.widen_at.ensures.grows c.with_row_field.ensures.grows;
       sound = then_other state c.widen_at.new.self c.with_row_field.new.self (state.value ∷ []) (c.in_ok-value.value ∷ c.get-tables.result ∷ []) c.in_ok-at.at given c.widen_at.ensures.grows both c.with_row_field.ensures.grows c.in_ok-at.ensures.there c.in_ok-at.ensures.made;
     }
 

@@ -6,7 +6,7 @@ use Rattle.type_normal.specs.Kinds.{unknown}
 use Rattle.type_normal.specs.Rows.{is_empty}
 use Rattle.report_rules.specs.Seen.{Seen, SeenExpr, SeenBody}
 use Rattle.report_rules.specs.TypeMap.{TypeMap}
-use Rattle.rule_state.specs.Work.{Work}
+use Rattle.rule_work.specs.Work.{Work}
 
 -- another type is at hand
 abbrev pub valued : Term → Work → Work

@@ -1,0 +1,8 @@
+pub mod Around
+pub mod Work
+pub mod Moves
+pub mod Results
+pub mod Listed
+pub mod Branches
+pub mod Calls
+pub mod Tables
