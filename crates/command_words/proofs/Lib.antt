@@ -1,0 +1,4 @@
+pub mod AllRead
+pub mod AllGathered
+pub mod Numbers
+pub mod Places
