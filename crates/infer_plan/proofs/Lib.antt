@@ -1,0 +1,9 @@
+pub mod ChoiceForms
+pub mod ExprForms
+pub mod ItemForms
+pub mod ListForms
+pub mod SameRules
+pub mod SeenFacts
+pub mod StatForms
+pub mod WriteForms
+pub mod Plans

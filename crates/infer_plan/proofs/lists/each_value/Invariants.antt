@@ -1,0 +1,19 @@
+use Rattle.std.proofs.Common.{◌≡◌, ◌≤◌, ◌+◌, drop}
+use Rattle.luau_tree.specs.View.{view_exprs}
+use Rattle.report_rules.specs.Rules.{Rules}
+use Rattle.report_rules.specs.Effects.{any_effects}
+use Rattle.module_facts.specs.Facts.{rules_of_facts}
+use Rattle.infer_plan.specs.Read.{IsReadBy}
+use Rattle.rule_work.specs.Work.{Work}
+use Rattle.infer_plan.specs.Run.{run}
+use Rattle.infer_plan.specs.Steps.{each_value}
+use Rattle.infer_plan.specs.Weights.{exprs_weight, weights}
+use Rattle.infer_plan.proofs.lists.each_value.Given as goal
+
+-- those from here to the end are done before the tasks that were there
+abbrev pub invariant-loop-i : goal.invariant-loop-i
+invariant-loop-i l = record {
+  later : l.later ≡ any_effects (rules_of_facts l.facts) (view_exprs (drop l.i l.es));
+  work : (rules : Rules) (work : Work) → IsReadBy l.facts rules → run rules l.tasks.items work ≡ run rules l.fn.tasks.items (each_value rules (view_exprs (drop l.i l.es)) work);
+  light : weights l.tasks.items ≤ weights l.fn.tasks.items + exprs_weight (view_exprs (drop l.i l.es));
+}

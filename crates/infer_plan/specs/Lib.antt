@@ -1,0 +1,4 @@
+pub mod Read
+pub mod Steps
+pub mod Run
+pub mod Weights
