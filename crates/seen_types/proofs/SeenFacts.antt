@@ -1,5 +1,5 @@
 -- What was seen, as the rules have it.
-use Rattle.std.proofs.Common.{◌≡◌, ℕ, List, [], ◌∷◌, refl, arith}
+use Rattle.std.proofs.Common.{◌≡◌, ℕ, List, [], ◌∷◌, refl, ap, ◌∙◌, subst, arith}
 use Rattle.std.specs.Prelude.{Bool, true, false, ◌==◌, Option, Some, None, IfSome, Contains, option_map, if◌then◌else◌}
 use Rattle.std.specs.Option.{option_map_or}
 use Rattle.std.proofs.lemmas.List.Elements.{Contains-append_right}
@@ -56,3 +56,13 @@ type_among (Expr other at live ∷ seen) id = by_test (other.0 == id) (type_amon
     by_test true rest = (0, omega arith, refl)
     by_test false rest = weaker (ref_at seen id) rest
 type_among (Body other live ∷ seen) id = type_among seen id
+
+-- what is found of an expression says both
+pub found_live : (means : TypeRef → Term) (seen : List Seen) (id : ℕ) (found : Option (TypeRef × Bool)) → expr_at seen id ≡ found → rules.is_live (seen_with means seen) id ≡ option_map_or (λ f. f.1) found false
+found_live means seen id found is = live_with means seen id ∙ ap (λ (f : Option (TypeRef × Bool)). option_map_or (λ x. x.1) f false) is
+
+pub found_type : (means : TypeRef → Term) (seen : List Seen) (id : ℕ) (found : TypeRef × Bool) → expr_at seen id ≡ Some found → rules.type_at (seen_with means seen) id ≡ means found.0
+found_type means seen id found is = type_with means seen id ∙ ap (λ (f : Option (TypeRef × Bool)). option_map_or means (option_map (λ x. x.0) f) unknown) is
+
+pub found_among : (seen : List Seen) (id : ℕ) (found : TypeRef × Bool) → expr_at seen id ≡ Some found → Contains (refs_seen seen) found.0
+found_among seen id found is = subst (λ (f : Option (TypeRef × Bool)). IfSome (option_map (λ x. x.0) f) (Contains (refs_seen seen))) is (type_among seen id)

@@ -21,7 +21,7 @@ pub struct SeenTypes {
 }
 
 impl SeenTypes {
-    ghost use Rattle.std.specs.Prelude.{IfOk, IfSome, Contains, option_map};
+    ghost use Rattle.std.specs.Prelude.{IfOk, IfSome, Contains, is_some, option_map};
     ghost use Rattle.std.specs.Option.{option_map_or};
     ghost use Rattle.type_arena.specs.Term.{Term};
     ghost use Rattle.type_arena.specs.declared.node.TypeRef.{TypeRef as RefValue};
@@ -52,6 +52,18 @@ impl SeenTypes {
         ensures among { IfSome result (Contains (refs_seen (seen_in self.now))) }
     {
         self.exprs.get(&id.0).map(|found| found.0)
+    }
+
+    /// The type of an expression whose place is live; None where it isn't.
+    pub fn live_type(&self, id: ExprId) -> Option<TypeRef>
+        ensures live { (means : RefValue → Term) → rules.is_live (seen_with means (seen_in self.now)) id.0 ≡ is_some result }
+        ensures meant { (means : RefValue → Term) → IfSome result (λ at. rules.type_at (seen_with means (seen_in self.now)) id.0 ≡ means at) }
+        ensures among { IfSome result (Contains (refs_seen (seen_in self.now))) }
+    {
+        match self.exprs.get(&id.0) {
+            None => None,
+            Some(found) => { if found.1 { Some(found.0) } else { None } }
+        }
     }
 
     /// Whether the place of an expression is live; not so where it wasn't seen.

@@ -1,0 +1,18 @@
+use Rattle.std.proofs.Common.{[], ◌∷◌, ◌++◌, refl}
+use Rattle.type_normal.specs.Growing.{given_refs}
+use Rattle.error_context.specs.Entries.{refs_in}
+use Rattle.context_types.proofs.MadeFacts.{one_stands, all_made, kept_made}
+use Rattle.context_types.proofs.ContextFacts.{both_made, context_after}
+use Rattle.context_types.proofs.types.ContextTypes.strip_all.Goals as goal
+
+pub invariant_of-self : goal.invariant_of-self
+invariant_of-self c =
+    let kept = kept_made c.args.self.now c.strip_all.new.arena (refs_in c.args.a.now.entries) [] (c.requires.made) c.strip_all.ensures.adds in
+    record { confined = kept.0; right = kept.1 }
+
+pub returns-clause-context : goal.returns-clause-context
+returns-clause-context c = λ i. λ n. c.in_ok-made.ensures.sets n i
+
+pub returns-clause-stands : goal.returns-clause-stands
+returns-clause-stands c =
+    context_after c.args.self.now _ (refs_in c.args.a.now.entries) [] c.in_ok-made.made refl (c.requires.made) c.strip_all.ensures.adds c.in_ok-made.ensures.context c.in_ok-made.ensures.clean

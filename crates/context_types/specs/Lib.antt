@@ -1,0 +1,4 @@
+pub mod Confined
+pub mod Types
+pub mod Standing
+pub mod Lists
