@@ -1,0 +1,5 @@
+pub mod Declarations
+pub mod Files
+pub mod ReadFiles
+pub mod Laws
+pub mod Samples
