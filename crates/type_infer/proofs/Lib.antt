@@ -1,0 +1,5 @@
+mod Calling
+mod Kept
+mod NameLists
+mod Reading
+mod Summing
