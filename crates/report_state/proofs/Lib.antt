@@ -1,0 +1,3 @@
+pub mod HandFacts
+pub mod AtFacts
+pub mod StackFacts
