@@ -199,9 +199,10 @@ forms paths before (d ∷ ds) n =
     let parts = first_none paths before d ds n in
     let bad = (or_parts_false (is_twice is_checked d.marks || is_twice is_quiet d.marks) (is_kept_back d.path || list_any (λ path. lies_in path d.path) paths) parts.0.good).1 in
     let two = or_parts_false (is_kept_back d.path) (list_any (λ path. lies_in path d.path) paths) bad in
-    let later = forms paths (d.path ∷ before) ds parts.1 in
-    (both_false (is_kept_back d.path) (list_any is_kept_back (paths_of ds)) two.0 later.0,
-    both_false (list_any (λ path. lies_in path d.path) paths) (list_any (λ library. list_any (λ path. lies_in path library) paths) (paths_of ds)) two.1 later.1)
+    let later = forms paths (d.path ∷ before) ds parts.1 in (
+      both_false (is_kept_back d.path) (list_any is_kept_back (paths_of ds)) two.0 later.0,
+      both_false (list_any (λ path. lies_in path d.path) paths) (list_any (λ library. list_any (λ path. lies_in path library) paths) (paths_of ds)) two.1 later.1,
+    )
 
 pub no_require : (ds : List Declaration) → fault_of ds ≡ None → list_any is_kept_back (paths_of ds) ≡ false
 no_require ds n = (forms (paths_of ds) [] ds n).0

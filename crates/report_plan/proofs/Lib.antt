@@ -6,3 +6,4 @@ pub mod WriteForms
 mod Plans
 mod ListFacts
 mod Loads
+mod KindFacts

@@ -62,7 +62,17 @@ pub put_parts : (old new : List Task) (how : Rules → Check) (e : Expr) (id : �
     → Puts old new (λ rules seen. found_parts_as rules seen (how rules) (the_expr id span kind)) (kind_weight kind) → Puts old new (λ rules seen. found_parts_as rules seen (how rules) e) (form_weight e)
 put_parts old new how e id span kind is p = subst (λ (x : Expr). Puts old new (λ rules seen. found_parts_as rules seen (how rules) x) (form_weight x)) (sym is) p
 
+-- whatever is done with an expression
+pub put_of : (old new : List Task) (part : Expr → Part) (e : Expr) (id : ℕ) (span : Span) (kind : ExprKind) → e ≡ the_expr id span kind
+    → Puts old new (part (the_expr id span kind)) (kind_weight kind) → Puts old new (part e) (form_weight e)
+put_of old new part e id span kind is p = subst (λ (x : Expr). Puts old new (part x) (form_weight x)) (sym is) p
+
 -- the same however a base is checked
+-- whatever is done with an expression
+pub put_of : (old new : List Task) (part : Expr → Part) (e : Expr) (id : ℕ) (span : Span) (kind : ExprKind) → e ≡ the_expr id span kind
+    → Puts old new (part (the_expr id span kind)) (kind_weight kind) → Puts old new (part e) (form_weight e)
+put_of old new part e id span kind is p = subst (λ (x : Expr). Puts old new (part x) (form_weight x)) (sym is) p
+
 -- the same however a base is checked
 pub put_any : (old new : List Task) (how : Rules → Check) (id : ℕ) (span : Span) (kind : ExprKind) (n : ℕ) → ((how : Check) → Puts old new (λ rules seen. found_parts_as rules seen how (the_expr id span kind)) n)
     → Puts old new (λ rules seen. found_parts_as rules seen (how rules) (the_expr id span kind)) n

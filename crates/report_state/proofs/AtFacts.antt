@@ -78,11 +78,14 @@ continues_same state t grows = contexts_stay {s = state.types} {t = t} (hand_of 
 abbrev pub found_in : ReportState → List Report
 found_in state = reverse (map report_meant state.reports.items)
 
+abbrev pub the_at : Fixed → Work → At
+the_at fixed work = record { fixed = fixed; work = work }
+
 -- other parts are at hand, with other types
 pub at_parts : (state : ReportState) (t : ContextTypes) (hand : Hand) (sets : List (List Term)) (fails : List (List PlainContext)) (behind : PlainContext) (aside breaks continues : List PlainContext) → Grows state.types t
     → map (map (set_in t)) hand.sets ≡ sets → map (map (context_in t)) hand.fails ≡ fails → context_in t hand.behind ≡ behind → map (context_in t) hand.aside ≡ aside → map (context_in t) hand.breaks ≡ breaks → map (context_in t) hand.continues ≡ continues
-    → record { fixed = fixed_in state t; work = work_in t hand (found_in state) }
-    ≡ record { fixed = fixed_in state state.types; work = record { sets = sets; fails = fails; behind = behind; aside = aside; breaks = breaks; continues = continues; reports = found_in state } }
+    → the_at (fixed_in state t) (work_in t hand (found_in state))
+    ≡ the_at (fixed_in state state.types) (record { sets = sets; fails = fails; behind = behind; aside = aside; breaks = breaks; continues = continues; reports = found_in state })
 at_parts state t hand sets fails behind aside breaks continues grows e f g h j k = λ i. record {
   fixed = fixed_stays state t grows i;
   work = record { sets = e i; fails = f i; behind = g i; aside = h i; breaks = j i; continues = k i; reports = found_in state };
@@ -90,68 +93,68 @@ at_parts state t hand sets fails behind aside breaks continues grows e f g h j k
 
 -- nothing else is at hand
 pub at_same : (state : ReportState) (t : ContextTypes) → Grows state.types t
-    → record { fixed = fixed_in state t; work = work_in t (hand_of state) (found_in state) } ≡ record { fixed = fixed_in state state.types; work = work_in state.types (hand_of state) (found_in state) }
+    → the_at (fixed_in state t) (work_in t (hand_of state) (found_in state)) ≡ the_at (fixed_in state state.types) (work_in state.types (hand_of state) (found_in state))
 at_same state t grows =
     at_parts state t (hand_of state) _ _ _ _ _ _ grows (sets_same state t grows) (fails_same state t grows) (behind_same state t grows) (aside_same state t grows) (breaks_same state t grows) (continues_same state t grows)
 
 -- some parts are others
 pub at_sets : (state : ReportState) (t : ContextTypes) (sets : List (List TypeRef)) (sets_meant : List (List Term)) → Grows state.types t → map (map (set_in t)) sets ≡ sets_meant
-    → record { fixed = fixed_in state t; work = work_in t (record (hand_of state) { sets = sets }) (found_in state) }
-    ≡ record { fixed = fixed_in state state.types; work = record (work_in state.types (hand_of state) (found_in state)) { sets = sets_meant } }
+    → the_at (fixed_in state t) (work_in t (record (hand_of state) { sets = sets }) (found_in state))
+    ≡ the_at (fixed_in state state.types) (record (work_in state.types (hand_of state) (found_in state)) { sets = sets_meant })
 at_sets state t sets sets_meant grows is_sets =
     at_parts state t (record (hand_of state) { sets = sets }) _ _ _ _ _ _ grows is_sets (fails_same state t grows) (behind_same state t grows) (aside_same state t grows) (breaks_same state t grows) (continues_same state t grows)
 
 pub at_fails : (state : ReportState) (t : ContextTypes) (fails : List (List Context)) (fails_meant : List (List PlainContext)) → Grows state.types t → map (map (context_in t)) fails ≡ fails_meant
-    → record { fixed = fixed_in state t; work = work_in t (record (hand_of state) { fails = fails }) (found_in state) }
-    ≡ record { fixed = fixed_in state state.types; work = record (work_in state.types (hand_of state) (found_in state)) { fails = fails_meant } }
+    → the_at (fixed_in state t) (work_in t (record (hand_of state) { fails = fails }) (found_in state))
+    ≡ the_at (fixed_in state state.types) (record (work_in state.types (hand_of state) (found_in state)) { fails = fails_meant })
 at_fails state t fails fails_meant grows is_fails =
     at_parts state t (record (hand_of state) { fails = fails }) _ _ _ _ _ _ grows (sets_same state t grows) is_fails (behind_same state t grows) (aside_same state t grows) (breaks_same state t grows) (continues_same state t grows)
 
 pub at_sets_fails : (state : ReportState) (t : ContextTypes) (sets : List (List TypeRef)) (sets_meant : List (List Term)) (fails : List (List Context)) (fails_meant : List (List PlainContext)) → Grows state.types t → map (map (set_in t)) sets ≡ sets_meant → map (map (context_in t)) fails ≡ fails_meant
-    → record { fixed = fixed_in state t; work = work_in t (record (hand_of state) { sets = sets; fails = fails }) (found_in state) }
-    ≡ record { fixed = fixed_in state state.types; work = record (work_in state.types (hand_of state) (found_in state)) { sets = sets_meant; fails = fails_meant } }
+    → the_at (fixed_in state t) (work_in t (record (hand_of state) { sets = sets; fails = fails }) (found_in state))
+    ≡ the_at (fixed_in state state.types) (record (work_in state.types (hand_of state) (found_in state)) { sets = sets_meant; fails = fails_meant })
 at_sets_fails state t sets sets_meant fails fails_meant grows is_sets is_fails =
     at_parts state t (record (hand_of state) { sets = sets; fails = fails }) _ _ _ _ _ _ grows is_sets is_fails (behind_same state t grows) (aside_same state t grows) (breaks_same state t grows) (continues_same state t grows)
 
 pub at_behind : (state : ReportState) (t : ContextTypes) (behind : Context) (behind_meant : PlainContext) → Grows state.types t → context_in t behind ≡ behind_meant
-    → record { fixed = fixed_in state t; work = work_in t (record (hand_of state) { behind = behind }) (found_in state) }
-    ≡ record { fixed = fixed_in state state.types; work = record (work_in state.types (hand_of state) (found_in state)) { behind = behind_meant } }
+    → the_at (fixed_in state t) (work_in t (record (hand_of state) { behind = behind }) (found_in state))
+    ≡ the_at (fixed_in state state.types) (record (work_in state.types (hand_of state) (found_in state)) { behind = behind_meant })
 at_behind state t behind behind_meant grows is_behind =
     at_parts state t (record (hand_of state) { behind = behind }) _ _ _ _ _ _ grows (sets_same state t grows) (fails_same state t grows) is_behind (aside_same state t grows) (breaks_same state t grows) (continues_same state t grows)
 
 pub at_fails_behind : (state : ReportState) (t : ContextTypes) (fails : List (List Context)) (fails_meant : List (List PlainContext)) (behind : Context) (behind_meant : PlainContext) → Grows state.types t → map (map (context_in t)) fails ≡ fails_meant → context_in t behind ≡ behind_meant
-    → record { fixed = fixed_in state t; work = work_in t (record (hand_of state) { fails = fails; behind = behind }) (found_in state) }
-    ≡ record { fixed = fixed_in state state.types; work = record (work_in state.types (hand_of state) (found_in state)) { fails = fails_meant; behind = behind_meant } }
+    → the_at (fixed_in state t) (work_in t (record (hand_of state) { fails = fails; behind = behind }) (found_in state))
+    ≡ the_at (fixed_in state state.types) (record (work_in state.types (hand_of state) (found_in state)) { fails = fails_meant; behind = behind_meant })
 at_fails_behind state t fails fails_meant behind behind_meant grows is_fails is_behind =
     at_parts state t (record (hand_of state) { fails = fails; behind = behind }) _ _ _ _ _ _ grows (sets_same state t grows) is_fails is_behind (aside_same state t grows) (breaks_same state t grows) (continues_same state t grows)
 
 pub at_aside : (state : ReportState) (t : ContextTypes) (aside : List Context) (aside_meant : List PlainContext) → Grows state.types t → map (context_in t) aside ≡ aside_meant
-    → record { fixed = fixed_in state t; work = work_in t (record (hand_of state) { aside = aside }) (found_in state) }
-    ≡ record { fixed = fixed_in state state.types; work = record (work_in state.types (hand_of state) (found_in state)) { aside = aside_meant } }
+    → the_at (fixed_in state t) (work_in t (record (hand_of state) { aside = aside }) (found_in state))
+    ≡ the_at (fixed_in state state.types) (record (work_in state.types (hand_of state) (found_in state)) { aside = aside_meant })
 at_aside state t aside aside_meant grows is_aside =
     at_parts state t (record (hand_of state) { aside = aside }) _ _ _ _ _ _ grows (sets_same state t grows) (fails_same state t grows) (behind_same state t grows) is_aside (breaks_same state t grows) (continues_same state t grows)
 
 pub at_behind_aside : (state : ReportState) (t : ContextTypes) (behind : Context) (behind_meant : PlainContext) (aside : List Context) (aside_meant : List PlainContext) → Grows state.types t → context_in t behind ≡ behind_meant → map (context_in t) aside ≡ aside_meant
-    → record { fixed = fixed_in state t; work = work_in t (record (hand_of state) { behind = behind; aside = aside }) (found_in state) }
-    ≡ record { fixed = fixed_in state state.types; work = record (work_in state.types (hand_of state) (found_in state)) { behind = behind_meant; aside = aside_meant } }
+    → the_at (fixed_in state t) (work_in t (record (hand_of state) { behind = behind; aside = aside }) (found_in state))
+    ≡ the_at (fixed_in state state.types) (record (work_in state.types (hand_of state) (found_in state)) { behind = behind_meant; aside = aside_meant })
 at_behind_aside state t behind behind_meant aside aside_meant grows is_behind is_aside =
     at_parts state t (record (hand_of state) { behind = behind; aside = aside }) _ _ _ _ _ _ grows (sets_same state t grows) (fails_same state t grows) is_behind is_aside (breaks_same state t grows) (continues_same state t grows)
 
 pub at_aside_loops : (state : ReportState) (t : ContextTypes) (aside : List Context) (aside_meant : List PlainContext) (breaks : List Context) (breaks_meant : List PlainContext) (continues : List Context) (continues_meant : List PlainContext) → Grows state.types t → map (context_in t) aside ≡ aside_meant → map (context_in t) breaks ≡ breaks_meant → map (context_in t) continues ≡ continues_meant
-    → record { fixed = fixed_in state t; work = work_in t (record (hand_of state) { aside = aside; breaks = breaks; continues = continues }) (found_in state) }
-    ≡ record { fixed = fixed_in state state.types; work = record (work_in state.types (hand_of state) (found_in state)) { aside = aside_meant; breaks = breaks_meant; continues = continues_meant } }
+    → the_at (fixed_in state t) (work_in t (record (hand_of state) { aside = aside; breaks = breaks; continues = continues }) (found_in state))
+    ≡ the_at (fixed_in state state.types) (record (work_in state.types (hand_of state) (found_in state)) { aside = aside_meant; breaks = breaks_meant; continues = continues_meant })
 at_aside_loops state t aside aside_meant breaks breaks_meant continues continues_meant grows is_aside is_breaks is_continues =
     at_parts state t (record (hand_of state) { aside = aside; breaks = breaks; continues = continues }) _ _ _ _ _ _ grows (sets_same state t grows) (fails_same state t grows) (behind_same state t grows) is_aside is_breaks is_continues
 
 pub at_all_loops : (state : ReportState) (t : ContextTypes) (behind : Context) (behind_meant : PlainContext) (aside : List Context) (aside_meant : List PlainContext) (breaks : List Context) (breaks_meant : List PlainContext) (continues : List Context) (continues_meant : List PlainContext) → Grows state.types t → context_in t behind ≡ behind_meant → map (context_in t) aside ≡ aside_meant → map (context_in t) breaks ≡ breaks_meant → map (context_in t) continues ≡ continues_meant
-    → record { fixed = fixed_in state t; work = work_in t (record (hand_of state) { behind = behind; aside = aside; breaks = breaks; continues = continues }) (found_in state) }
-    ≡ record { fixed = fixed_in state state.types; work = record (work_in state.types (hand_of state) (found_in state)) { behind = behind_meant; aside = aside_meant; breaks = breaks_meant; continues = continues_meant } }
+    → the_at (fixed_in state t) (work_in t (record (hand_of state) { behind = behind; aside = aside; breaks = breaks; continues = continues }) (found_in state))
+    ≡ the_at (fixed_in state state.types) (record (work_in state.types (hand_of state) (found_in state)) { behind = behind_meant; aside = aside_meant; breaks = breaks_meant; continues = continues_meant })
 at_all_loops state t behind behind_meant aside aside_meant breaks breaks_meant continues continues_meant grows is_behind is_aside is_breaks is_continues =
     at_parts state t (record (hand_of state) { behind = behind; aside = aside; breaks = breaks; continues = continues }) _ _ _ _ _ _ grows (sets_same state t grows) (fails_same state t grows) is_behind is_aside is_breaks is_continues
 
 pub at_loops : (state : ReportState) (t : ContextTypes) (breaks : List Context) (breaks_meant : List PlainContext) (continues : List Context) (continues_meant : List PlainContext) → Grows state.types t → map (context_in t) breaks ≡ breaks_meant → map (context_in t) continues ≡ continues_meant
-    → record { fixed = fixed_in state t; work = work_in t (record (hand_of state) { breaks = breaks; continues = continues }) (found_in state) }
-    ≡ record { fixed = fixed_in state state.types; work = record (work_in state.types (hand_of state) (found_in state)) { breaks = breaks_meant; continues = continues_meant } }
+    → the_at (fixed_in state t) (work_in t (record (hand_of state) { breaks = breaks; continues = continues }) (found_in state))
+    ≡ the_at (fixed_in state state.types) (record (work_in state.types (hand_of state) (found_in state)) { breaks = breaks_meant; continues = continues_meant })
 at_loops state t breaks breaks_meant continues continues_meant grows is_breaks is_continues =
     at_parts state t (record (hand_of state) { breaks = breaks; continues = continues }) _ _ _ _ _ _ grows (sets_same state t grows) (fails_same state t grows) (behind_same state t grows) (aside_same state t grows) is_breaks is_continues
 

@@ -3,7 +3,9 @@ use Rattle.std.proofs.Common.{◌≡◌, List, [], ◌∷◌, refl, sym, ap, ◌
 use Rattle.std.specs.Prelude.{All, map}
 use Rattle.std.proofs.lemmas.List.Elements.{All-nil, All-weaker, All-head, All-tail}
 use Rattle.type_arena.specs.Arena.{store_of}
+use Rattle.type_arena.specs.Term.{Term}
 use Rattle.type_arena.specs.declared.node.TypeRef.{TypeRef}
+use Rattle.type_normal.specs.Rows.{term_cmp}
 use Rattle.type_normal.proofs.AddsFacts.{there_kept}
 use Rattle.type_decl.specs.Tables.{refs_in}
 use Rattle.type_decl.specs.declared.sig.Sig.{Sig}
@@ -15,13 +17,14 @@ use Rattle.context_types.specs.Types.{arena_of, outside_of, set_in, context_in}
 use Rattle.context_types.specs.declared.types.ContextTypes.{ContextTypes}
 use Rattle.context_types.proofs.GrowFacts.{stands_on, set_stays, all_stand_on, sets_stay, context_on, context_stays, all_contexts_on, contexts_stay, map_where, made_on}
 use Rattle.context_types.proofs.ListFacts.{nothing_stands}
+use Rattle.module_facts.specs.Facts.{rules_of_facts}
 use Rattle.module_facts.specs.declared.facts.Facts.{Facts}
 use Rattle.seen_types.specs.Seen.{refs_seen}
 use Rattle.seen_types.specs.Tables.{seen_in, types_for}
 use Rattle.seen_types.specs.declared.params.ParamTypes.{ParamTypes}
 use Rattle.seen_types.specs.declared.table.SeenTypes.{SeenTypes}
 use Rattle.report_state.specs.Hand.{Hand, IsSound}
-use Rattle.report_state.specs.Known.{Knows}
+use Rattle.report_state.specs.Known.{AreWritten, Knows}
 
 -- lists of sets and of contexts
 pub set_lists_on : (s t : ContextTypes) (lists : List (List TypeRef)) → Grows s t → All (All (Stands s)) lists → All (All (Stands t)) lists
@@ -56,10 +59,13 @@ knows_on s t facts seen params summary grows known = record {
   sigs_stand = All-weaker (λ (sig : Sig). All (Stands s) (refs_in sig)) (λ sig. All (Stands t) (refs_in sig)) (λ sig one. all_stand_on {s = s} {t = t} (refs_in sig) grows one) facts.table.now.sigs known.sigs_stand;
   seen_stand = all_stand_on {s = s} {t = t} (refs_seen (seen_in seen)) grows known.seen_stand;
   params_stand = λ function. all_stand_on {s = s} {t = t} (types_for params function) grows (known.params_stand function);
-  annotated = λ function index. ap (type_at index) (sets_stay {s = s} {t = t} (types_for params function) grows (known.params_stand function)) ∙ known.annotated function index;
   summary_there = there_kept (store_of (arena_of s)) (store_of (arena_of t)) summary grows.keeps known.summary_there;
   summary_made = made_on s t summary grows known.summary_made;
 }
+
+pub written_on : (s t : ContextTypes) (facts : Facts) (seen : SeenTypes) (params : ParamTypes) (summary : TypeRef) → Grows s t → Knows s facts seen params summary → AreWritten s facts params → AreWritten t facts params
+written_on s t facts seen params summary grows known written function index =
+    ap (λ (types : List Term). term_cmp (type_at index types) ((rules_of_facts facts).annotation function index)) (sets_stay {s = s} {t = t} (types_for params function) grows (known.params_stand function)) ∙ written function index
 
 -- the first list and the rest
 pub top_all : {X : Type 0} (P : X → Type 0) (lists : List (List X)) → All (All P) lists → All P (list_of lists)

@@ -1,3 +1,4 @@
+pub mod Props
 pub mod Hand
 pub mod Known
 pub mod At

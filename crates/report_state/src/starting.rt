@@ -1,5 +1,5 @@
 //! The first state, and what is found at the end.
-ghost use Rattle.std.specs.Prelude.{◌≡◌, IsTrue, map};
+ghost use Rattle.std.specs.Prelude.{◌≡◌, ℕ, IsTrue, map};
 ghost use Rattle.type_arena.specs.Arena.{home_of, below_of, store_of};
 ghost use Rattle.type_arena.specs.Meaning.{term_of};
 ghost use Rattle.type_arena.specs.Store.{has as has_node};
@@ -11,7 +11,7 @@ ghost use Rattle.seen_types.specs.Seen.{seen_with};
 ghost use Rattle.seen_types.specs.Tables.{seen_in};
 ghost use Rattle.report_work.specs.Work.{begun};
 ghost use Rattle.report_state.specs.At.{at_of};
-ghost use Rattle.report_state.specs.Known.{Knows};
+ghost use Rattle.report_state.specs.Known.{Knows, param_in};
 
 use crate::state::ReportState;
 use context_types::{ContextTypes, nothing};
@@ -41,6 +41,7 @@ impl<'a> ReportState<'a> {
     ) -> ReportState<'a>
         requires ordered { IsInOrder facts.scoped.now }
         requires known { Knows types facts seen.now params.now summary }
+        requires written { (function index : ℕ) → param_in types params.now function index ≡ (rules_of_facts facts).annotation function index }
         ensures { at_of result ≡ record {
             fixed = record {
                 rules = rules_of_facts facts.entry;

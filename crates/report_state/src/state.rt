@@ -2,7 +2,8 @@ ghost use Rattle.std.proofs.Props.{props};
 ghost use Rattle.std.specs.Prelude.{reverse};
 ghost use Rattle.module_facts.specs.Facts.{IsInOrder};
 ghost use Rattle.report_state.specs.Hand.{IsSound, stacked};
-ghost use Rattle.report_state.specs.Known.{Knows};
+ghost use Rattle.report_state.specs.Known.{AreWritten, Knows};
+ghost use Rattle.report_state.specs.Props.{entries_ascend-prop, scope_ascend-prop};
 
 use context_types::ContextTypes;
 use error_context::Context;
@@ -38,7 +39,8 @@ pub struct ReportState<'a> {
     pub(crate) continues: Vec<Context>,
     /// The reports of what was gone through, from the end to the begin.
     pub(crate) reports: Vec<Report>,
-    ghost ordered: { IsInOrder facts.scoped.now } by { Prim.hlevel props },
+    ghost ordered: { IsInOrder facts.scoped.now } by { Prim.hlevel (props, scope_ascend-prop) },
     ghost known: { Knows types facts seen.now params.now summary } by { Prim.hlevel props },
-    ghost sound: { IsSound types (record { sets = stacked sets.items; fails = stacked fails.items; behind = behind; aside = reverse aside.items; breaks = reverse breaks.items; continues = reverse continues.items }) } by { Prim.hlevel props },
+    ghost written: { AreWritten types facts params.now } by { Prim.hlevel props },
+    ghost sound: { IsSound types (record { sets = stacked sets.items; fails = stacked fails.items; behind = behind; aside = reverse aside.items; breaks = reverse breaks.items; continues = reverse continues.items }) } by { Prim.hlevel (props, entries_ascend-prop) },
 }

@@ -1,5 +1,7 @@
 mod Calling
 mod Kept
 mod NameLists
+mod Numbered
 mod Reading
+mod Starting
 mod Summing

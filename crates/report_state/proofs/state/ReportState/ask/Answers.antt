@@ -14,7 +14,7 @@ use Rattle.report_work.specs.Moves.{first_of, list_of, rest_of, asked_one, asked
 use Rattle.report_state.specs.At.{at_of, hand_of, doing, ruled, seeing}
 use Rattle.report_state.specs.Hand.{stacked}
 use Rattle.report_state.proofs.AtFacts.{at_same, at_sets, at_fails, at_sets_fails, at_behind, at_fails_behind, at_aside, at_behind_aside, at_aside_loops, at_all_loops, at_loops, sets_same, fails_same, behind_same, aside_same, breaks_same, continues_same, on_ok}
-use Rattle.report_state.proofs.HandFacts.{knows_on, sound_on, set_lists_on, context_lists_on, top_all, top_meant, with_sets, with_fails, with_behind, with_aside, with_breaks, with_continues}
+use Rattle.report_state.proofs.HandFacts.{knows_on, written_on, sound_on, set_lists_on, context_lists_on, top_all, top_meant, with_sets, with_fails, with_behind, with_aside, with_breaks, with_continues}
 use Rattle.report_state.proofs.StackFacts.{stacked_more, reversed_more, all_stacked, all_reversed, rest_kept, top_kept, first_kept, rest_stand, top_stand, first_stand, pushed_kept, more_kept}
 use Rattle.report_state.proofs.state.ReportState.ask.Goals as goal
 
@@ -26,6 +26,7 @@ invariant_of-self c =
     record {
   ordered = c.args.self.now.ordered;
   known = c.args.self.now.known;
+  written = c.args.self.now.written;
   sound = with_sets types (hand_of c.args.self.now) (stacked c.push-2.new.self.items) c.args.self.now.sound (all_stacked (All (Stands types)) c.args.self.now.sets.items c.push-2.new.self.items c.push.new.self (is_ok c.push-2.result) c.push-2.ensures.items c.args.self.now.sound.sets_stand stand);
 }
 

@@ -14,7 +14,7 @@ use Rattle.report_work.specs.Moves.{first_of, list_of, rest_of, asked_one, asked
 use Rattle.report_state.specs.At.{at_of, hand_of, doing, ruled, seeing}
 use Rattle.report_state.specs.Hand.{stacked}
 use Rattle.report_state.proofs.AtFacts.{at_same, at_sets, at_fails, at_sets_fails, at_behind, at_fails_behind, at_aside, at_behind_aside, at_aside_loops, at_all_loops, at_loops, sets_same, fails_same, behind_same, aside_same, breaks_same, continues_same, on_ok}
-use Rattle.report_state.proofs.HandFacts.{knows_on, sound_on, set_lists_on, context_lists_on, top_all, top_meant, with_sets, with_fails, with_behind, with_aside, with_breaks, with_continues}
+use Rattle.report_state.proofs.HandFacts.{knows_on, written_on, sound_on, set_lists_on, context_lists_on, top_all, top_meant, with_sets, with_fails, with_behind, with_aside, with_breaks, with_continues}
 use Rattle.report_state.proofs.StackFacts.{stacked_more, reversed_more, all_stacked, all_reversed, rest_kept, top_kept, first_kept, rest_stand, top_stand, first_stand, pushed_kept, more_kept}
 use Rattle.report_state.proofs.state.ReportState.ask_again.Goals as goal
 
@@ -26,6 +26,7 @@ invariant_of-self c =
     record {
   ordered = c.args.self.now.ordered;
   known = c.args.self.now.known;
+  written = c.args.self.now.written;
   sound = with_sets types (hand_of c.args.self.now) (stacked c.push.new.self.items) c.args.self.now.sound (all_stacked (All (Stands types)) old c.push.new.self.items c.in_ok-sets.sets (is_ok c.push.result) c.push.ensures.items c.args.self.now.sound.sets_stand (top_stand (Stands types) (stacked old) c.in_ok-sets.sets.items listed c.args.self.now.sound.sets_stand));
 }
 

@@ -14,7 +14,7 @@ use Rattle.report_work.specs.Moves.{first_of, list_of, rest_of, asked_one, asked
 use Rattle.report_state.specs.At.{at_of, hand_of, doing, ruled, seeing}
 use Rattle.report_state.specs.Hand.{stacked}
 use Rattle.report_state.proofs.AtFacts.{at_same, at_sets, at_fails, at_sets_fails, at_behind, at_fails_behind, at_aside, at_behind_aside, at_aside_loops, at_all_loops, at_loops, sets_same, fails_same, behind_same, aside_same, breaks_same, continues_same, on_ok}
-use Rattle.report_state.proofs.HandFacts.{knows_on, sound_on, set_lists_on, context_lists_on, top_all, top_meant, with_sets, with_fails, with_behind, with_aside, with_breaks, with_continues}
+use Rattle.report_state.proofs.HandFacts.{knows_on, written_on, sound_on, set_lists_on, context_lists_on, top_all, top_meant, with_sets, with_fails, with_behind, with_aside, with_breaks, with_continues}
 use Rattle.report_state.proofs.StackFacts.{stacked_more, reversed_more, all_stacked, all_reversed, rest_kept, top_kept, first_kept, rest_stand, top_stand, first_stand, pushed_kept, more_kept}
 use Rattle.report_state.proofs.state.ReportState.ask_never.Goals as goal
 

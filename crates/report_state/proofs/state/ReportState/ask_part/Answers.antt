@@ -15,7 +15,7 @@ use Rattle.type_fields.specs.Plain.{plain_term}
 use Rattle.report_state.specs.At.{at_of, hand_of, doing, ruled, seeing}
 use Rattle.report_state.specs.Hand.{stacked}
 use Rattle.report_state.proofs.AtFacts.{at_same, at_sets, at_fails, at_sets_fails, at_behind, at_fails_behind, at_aside, at_behind_aside, at_aside_loops, at_all_loops, at_loops, sets_same, fails_same, behind_same, aside_same, breaks_same, continues_same, on_ok}
-use Rattle.report_state.proofs.HandFacts.{knows_on, sound_on, set_lists_on, context_lists_on, top_all, top_meant, with_sets, with_fails, with_behind, with_aside, with_breaks, with_continues}
+use Rattle.report_state.proofs.HandFacts.{knows_on, written_on, sound_on, set_lists_on, context_lists_on, top_all, top_meant, with_sets, with_fails, with_behind, with_aside, with_breaks, with_continues}
 use Rattle.report_state.proofs.StackFacts.{stacked_more, reversed_more, all_stacked, all_reversed, rest_kept, top_kept, first_kept, rest_stand, top_stand, first_stand, pushed_kept, more_kept}
 use Rattle.report_state.proofs.state.ReportState.ask_part.Goals as goal
 
@@ -30,6 +30,7 @@ invariant_of-self c =
     record {
   ordered = c.args.self.now.ordered;
   known = knows_on c.args.self.now.types t c.args.self.now.facts c.args.self.now.seen.now c.args.self.now.params.now c.args.self.now.summary c.parts.ensures.grows c.args.self.now.known;
+  written = written_on c.args.self.now.types t c.args.self.now.facts c.args.self.now.seen.now c.args.self.now.params.now c.args.self.now.summary c.parts.ensures.grows c.args.self.now.known c.args.self.now.written;
   sound = sound_on types t (hand_of c.args.self.now) c.parts.ensures.grows c.args.self.now.sound;
 }
 
@@ -40,6 +41,7 @@ invariant_of-self-2 c =
     record {
   ordered = c.args.self.now.ordered;
   known = knows_on c.args.self.now.types t c.args.self.now.facts c.args.self.now.seen.now c.args.self.now.params.now c.args.self.now.summary c.parts.ensures.grows c.args.self.now.known;
+  written = written_on c.args.self.now.types t c.args.self.now.facts c.args.self.now.seen.now c.args.self.now.params.now c.args.self.now.summary c.parts.ensures.grows c.args.self.now.known c.args.self.now.written;
   sound = with_sets t (hand_of c.args.self.now) (stacked c.push.new.self.items) (sound_on types t (hand_of c.args.self.now) c.parts.ensures.grows c.args.self.now.sound) (all_stacked (All (Stands t)) c.args.self.now.sets.items c.push.new.self.items c.in_ok-parts.parts (is_ok c.push.result) c.push.ensures.items (set_lists_on types t (stacked c.args.self.now.sets.items) c.parts.ensures.grows c.args.self.now.sound.sets_stand) c.in_ok-parts.ensures.stand);
 }
 

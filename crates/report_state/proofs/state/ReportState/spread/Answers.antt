@@ -14,7 +14,7 @@ use Rattle.report_work.specs.Moves.{first_of, list_of, rest_of, asked_one, asked
 use Rattle.report_state.specs.At.{at_of, hand_of, doing, ruled, seeing}
 use Rattle.report_state.specs.Hand.{stacked}
 use Rattle.report_state.proofs.AtFacts.{at_same, at_sets, at_fails, at_sets_fails, at_behind, at_fails_behind, at_aside, at_behind_aside, at_aside_loops, at_all_loops, at_loops, sets_same, fails_same, behind_same, aside_same, breaks_same, continues_same, on_ok}
-use Rattle.report_state.proofs.HandFacts.{knows_on, sound_on, set_lists_on, context_lists_on, top_all, top_meant, with_sets, with_fails, with_behind, with_aside, with_breaks, with_continues}
+use Rattle.report_state.proofs.HandFacts.{knows_on, written_on, sound_on, set_lists_on, context_lists_on, top_all, top_meant, with_sets, with_fails, with_behind, with_aside, with_breaks, with_continues}
 use Rattle.report_state.proofs.StackFacts.{stacked_more, reversed_more, all_stacked, all_reversed, rest_kept, top_kept, first_kept, rest_stand, top_stand, first_stand, pushed_kept, more_kept, spread_kept, spread_stand}
 use Rattle.report_state.proofs.state.ReportState.spread.Goals as goal
 
@@ -24,6 +24,7 @@ invariant_of-self c =
     record {
   ordered = c.args.self.now.ordered;
   known = c.args.self.now.known;
+  written = c.args.self.now.written;
   sound = with_sets types (hand_of c.args.self.now) (stacked c.take_sets-sets.new.stack.items) c.args.self.now.sound (rest_stand (All (Stands types)) (stacked c.args.self.now.sets.items) (stacked c.take_sets-sets.new.stack.items) c.take_sets-sets.ensures.rest c.args.self.now.sound.sets_stand);
 }
 
@@ -34,6 +35,7 @@ invariant_of-self-2 c =
     record {
   ordered = c.args.self.now.ordered;
   known = c.args.self.now.known;
+  written = c.args.self.now.written;
   sound = with_fails types (record (hand_of c.args.self.now) { sets = rest }) (stacked c.push.new.self.items) (with_sets types (hand_of c.args.self.now) rest c.args.self.now.sound (rest_stand (All (Stands types)) (stacked c.args.self.now.sets.items) rest c.take_sets-sets.ensures.rest c.args.self.now.sound.sets_stand)) (all_stacked (All (StandsContext types)) c.args.self.now.fails.items c.push.new.self.items c.in_ok-fails.fails (is_ok c.push.result) c.push.ensures.items c.args.self.now.sound.fails_stand (spread_stand types c.args.self.now.behind c.as_slice.result.now c.in_ok-fails.fails.items c.in_ok-fails.ensures c.args.self.now.sound.behind_stands));
 }
 
