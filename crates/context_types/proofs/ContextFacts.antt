@@ -1,12 +1,11 @@
 -- Contexts that calls make, and guards.
 use Rattle.std.proofs.Common.{◌≡◌, ℕ, List, [], ◌∷◌, ◌++◌, refl, sym, ap, ◌∙◌, subst}
-use Rattle.std.specs.Prelude.{Bool, true, false, Contains, All, IsTrue, None, if◌then◌else◌, ◌==◌}
+use Rattle.std.specs.Prelude.{Bool, Contains, All, IsTrue, None, if◌then◌else◌, ◌==◌}
 use Rattle.std.proofs.lemmas.List.Elements.{All-weaker, All-append, All-contains, Contains-get_or}
 use Rattle.luau_scope.specs.declared.reading.LocalInfo.{LocalInfo}
 use Rattle.luau_scope.specs.declared.reading.Use.{Use}
-use Rattle.luau_tree.specs.Tree.{Block, no_stats, Expr}
+use Rattle.luau_tree.specs.Tree.{no_stats, Expr}
 use Rattle.luau_tree.specs.declared.names.ExprId.{ExprId}
-use Rattle.luau_tree.specs.declared.names.LocalId.{LocalId}
 use Rattle.type_arena.specs.Arena.{store_of}
 use Rattle.type_arena.specs.Homes.{itself, by_ref}
 use Rattle.type_arena.specs.Store.{has}
@@ -17,7 +16,7 @@ use Rattle.type_arena.specs.declared.node.TypeRef.{TypeRef}
 use Rattle.type_normal.specs.Adds.{Adds}
 use Rattle.type_normal.specs.Growing.{given_refs, IsClean}
 use Rattle.type_normal.specs.Kinds.{unknown}
-use Rattle.error_context.specs.Entries.{Entries, AreClean, AreThere, AscendFrom, IsContext, IsGuard, entry_or, guard_of, locals_in, refs_in}
+use Rattle.error_context.specs.Entries.{Entries, AreClean, AreThere, AscendFrom, IsContext, IsGuard, entry_or, locals_in, refs_in}
 use Rattle.error_context.specs.declared.context.Context.{Context}
 use Rattle.error_context.proofs.NormalFacts.{said_is_guard}
 use Rattle.guards.specs.Lists.{meant, type_in}

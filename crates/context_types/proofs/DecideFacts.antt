@@ -1,10 +1,10 @@
 -- What a condition chooses, by one call after another.
-use Rattle.std.proofs.Common.{◌≡◌, refl, sym, ap, ◌∙◌}
+use Rattle.std.proofs.Common.{◌≡◌, sym, ◌∙◌}
 use Rattle.std.specs.Prelude.{Bool}
 use Rattle.luau_tree.specs.Tree.{Expr}
 use Rattle.error_context.specs.declared.context.Context.{Context}
 use Rattle.guards.specs.declared.guarding.Guard.{Guard}
-use Rattle.report_rules.specs.Context.{Context as PlainContext, join, branch, pass}
+use Rattle.report_rules.specs.Context.{join, branch, pass}
 use Rattle.report_rules.specs.Rules.{Rules}
 use Rattle.report_work.specs.Moves.{and_one, or_one, choice_one}
 use Rattle.context_types.specs.Lists.{way_context}

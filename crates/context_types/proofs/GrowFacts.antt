@@ -1,6 +1,6 @@
 -- What stands in the arena of the types stands there, and means the same, after calls.
 use Rattle.std.proofs.Common.{◌≡◌, ℕ, List, [], ◌∷◌, refl, sym, ap, ◌∙◌, subst}
-use Rattle.std.specs.Prelude.{true, All, IsTrue, map, ◌==◌, if◌then◌else◌}
+use Rattle.std.specs.Prelude.{All, IsTrue, map, ◌==◌, if◌then◌else◌}
 use Rattle.std.proofs.lemmas.List.Elements.{All-weaker, All-head, All-tail}
 use Rattle.luau_tree.specs.Tree.{Expr}
 use Rattle.type_arena.specs.Arena.{store_of}
@@ -11,7 +11,7 @@ use Rattle.type_normal.specs.Kinds.{unknown}
 use Rattle.type_normal.specs.Rows.{is_normal, is_empty}
 use Rattle.type_normal.proofs.AddsFacts.{there_kept}
 use Rattle.local_types.specs.Growing.{StaysWithin}
-use Rattle.error_context.specs.Entries.{Entries, entry_or, guard_of, refs_in, is_cut, IsContext, IsGuard}
+use Rattle.error_context.specs.Entries.{Entries, entry_or, guard_of, refs_in, is_cut, IsGuard}
 use Rattle.error_context.specs.declared.context.Context.{Context}
 use Rattle.guards.specs.declared.guarding.Guard.{Guard}
 use Rattle.report_rules.specs.Rules.{Rules}

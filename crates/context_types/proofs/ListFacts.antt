@@ -1,9 +1,8 @@
 -- Lists of sets and of contexts, one after another.
 use Rattle.std.proofs.Common.{◌≡◌, ℕ, zero, suc, ◌+◌, ◌<◌, ◌≤◌, List, [], ◌∷◌, ◌++◌, length, get_or, take, refl, sym, ap, ◌∙◌, subst, arith, add-one}
-use Rattle.std.specs.Prelude.{true, false, Bool, All, IsTrue, map, if◌then◌else◌}
+use Rattle.std.specs.Prelude.{true, false, All, IsTrue, map}
 use Rattle.std.proofs.lemmas.List.{map-append, map_more, get_or_default}
 use Rattle.std.proofs.lemmas.List.Elements.{All-nil, All-cons, All-push, All-head, All-tail}
-use Rattle.luau_tree.specs.Tree.{Expr}
 use Rattle.type_arena.specs.Arena.{store_of}
 use Rattle.type_arena.specs.Store.{has}
 use Rattle.type_arena.specs.Term.{Term, never}
@@ -12,10 +11,9 @@ use Rattle.type_normal.specs.Operations.{meet}
 use Rattle.type_normal.specs.Rows.{is_empty}
 use Rattle.error_context.specs.Entries.{is_cut}
 use Rattle.error_context.specs.declared.context.Context.{Context}
-use Rattle.guards.specs.declared.guarding.Guard.{Guard}
 use Rattle.report_rules.specs.Context.{Context as PlainContext, only_for}
-use Rattle.report_rules.specs.Rules.{Rules, loose}
-use Rattle.report_work.specs.Moves.{zipped, past_none, parts_of, first_of, rest_of, parts_among}
+use Rattle.report_rules.specs.Rules.{Rules}
+use Rattle.report_work.specs.Moves.{zipped, past_none, parts_of, first_of, rest_of}
 use Rattle.context_types.specs.Confined.{IsMade}
 use Rattle.context_types.specs.Lists.{each_term, refs_each, no_context, first_ref}
 use Rattle.context_types.specs.Standing.{Grows, Stands, StandsContext}

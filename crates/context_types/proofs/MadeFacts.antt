@@ -1,6 +1,6 @@
 -- What calls on the arena make, and that it leads to no other homes then.
-use Rattle.std.proofs.Common.{◌≡◌, ℕ, ◌<◌, List, [], ◌∷◌, refl, sym, ap, ◌∙◌, subst, arith}
-use Rattle.std.specs.Prelude.{Bool, true, Option, Some, None, Result, Ok, Err, IfOk, OnErr, All, Contains, IsTrue}
+use Rattle.std.proofs.Common.{◌≡◌, ℕ, ◌<◌, List, [], ◌∷◌, refl, sym, ◌∙◌, subst, arith}
+use Rattle.std.specs.Prelude.{Bool, true, Option, Some, None, Result, Ok, Err, IfOk, OnErr, All, IsTrue}
 use Rattle.std.proofs.lemmas.List.Elements.{All-nil, All-cons, All-contains, All-weaker}
 use Rattle.subtype_memory.specs.Memory.{IsRight}
 use Rattle.subtype_memory.specs.declared.memory.Remembered.{Remembered}
@@ -14,11 +14,10 @@ use Rattle.type_arena.specs.declared.node.TypeRef.{TypeRef}
 use Rattle.type_normal.specs.Adds.{Adds}
 use Rattle.type_normal.specs.Growing.{given_refs, IsClean}
 use Rattle.type_normal.specs.Rows.{is_normal}
-use Rattle.type_normal.proofs.AddsFacts.{there_kept}
 use Rattle.local_types.specs.Growing.{HaveHomes, StaysWithin}
 use Rattle.context_types.specs.Confined.{StartsWithin, IsConfined, IsMade}
 use Rattle.context_types.specs.Types.{arena_of, outside_of, set_in}
-use Rattle.context_types.specs.Standing.{Stands, Grows}
+use Rattle.context_types.specs.Standing.{Stands}
 use Rattle.context_types.specs.declared.types.ContextTypes.{ContextTypes}
 
 -- what may be used of references with homes that pass a test, in an arena that stays within them, passes it too

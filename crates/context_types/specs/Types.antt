@@ -1,5 +1,5 @@
 -- What sets and contexts in the arena of the types mean.
-use Rattle.std.specs.Prelude.{ℕ, List}
+use Rattle.std.specs.Prelude.{List}
 use Rattle.type_arena.specs.Arena.{store_of}
 use Rattle.type_arena.specs.Meaning.{term_of}
 use Rattle.type_arena.specs.Term.{Term}

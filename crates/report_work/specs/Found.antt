@@ -1,5 +1,5 @@
 -- What the reports of expressions make of what is at hand: reports alone change.
-use Rattle.std.specs.Prelude.{List, [], ◌∷◌, ◌++◌, if◌then◌else◌}
+use Rattle.std.specs.Prelude.{Bool, List, [], ◌∷◌, ◌++◌, if◌then◌else◌}
 use Rattle.luau_tree.specs.declared.names.Place.TheVariants.{Expr as ExprPlace}
 use Rattle.luau_tree.specs.Tree.{Expr, the_expr, Item, Field, Keyed, Plain, Body, the_body}
 use Rattle.report_rules.specs.Rules.{Rules, use_of}
@@ -33,8 +33,11 @@ abbrev pub found_parts_as : Rules → List Seen → (how : Check) → Expr → W
 found_parts_as rules seen how (the_expr id span kind) work = reported (found_in rules seen (check_kinds rules seen (values_at_hand work) how) kind) work
 
 -- how the base of what is read is checked: that of a builtin's path isn't evaluated
+abbrev pub base_check : (is_path : Bool) → Check
+base_check is_path = if is_path then Unchecked else Base
+
 abbrev pub read_check : Rules → Expr → Check
-read_check rules e = if is_builtin (use_of rules e) then Unchecked else Base
+read_check rules e = base_check (is_builtin (use_of rules e))
 
 -- the condition and the value of a choice, and the expressions of an item
 abbrev pub found_choice : Rules → List Seen → (cond value : Expr) → Work → Work

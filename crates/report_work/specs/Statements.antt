@@ -10,13 +10,18 @@ use Rattle.report_rules.specs.Statements.{keep, stm, stm_block, old_kinds}
 use Rattle.report_rules.specs.Findings.{found_stat, found_block, found_target, found_compound}
 use Rattle.report_work.specs.Work.{Work}
 use Rattle.report_work.specs.Moves.{first_of, behind_by, behind_kept, behind_again, decided, written, kept_for_value, looped, unlooped, reported}
-use Rattle.report_work.specs.Checks.{Check, Unchecked, ValueFor, Named, named_of_target}
-use Rattle.report_work.specs.Expressions.{before, before_target, before_compound}
+use Rattle.report_work.specs.Checks.{Check, Unchecked, Iterated, ValueFor, Named, named_of_target}
+use Rattle.report_work.specs.Expressions.{before, each, before_target, before_compound}
 use Rattle.report_work.specs.Found.{found_as}
 
 -- an expression that is checked: its reports, and it stands before what is behind
 abbrev pub passed : Rules → List Seen → Check → Expr → Work → Work
 passed rules seen check e work = before rules seen check e (found_as rules seen check e work)
+
+-- the values of a generic `for`, of which the first is gone over
+abbrev pub each_iterated : Rules → List Seen → Exprs → Work → Work
+each_iterated rules seen no_exprs work = work
+each_iterated rules seen (more_exprs e rest) work = passed rules seen Iterated e (each (passed rules seen Unchecked) rest work)
 
 -- ## Values and targets
 

@@ -1,7 +1,4 @@
-use Rattle.std.proofs.Common.{[], ◌∷◌, ◌++◌, refl, sym, ap, ◌∙◌, subst}
-use Rattle.std.specs.Prelude.{All}
-use Rattle.type_arena.specs.Arena.{store_of}
-use Rattle.type_normal.specs.Growing.{given_refs}
+use Rattle.std.proofs.Common.{[], ◌++◌, refl, sym, ap, ◌∙◌, subst}
 use Rattle.error_context.specs.Entries.{Entries, guard_of, refs_in}
 use Rattle.context_types.specs.Types.{arena_of}
 use Rattle.context_types.proofs.MadeFacts.{kept_made}

@@ -1,7 +1,7 @@
 use Rattle.std.proofs.Common.{sym, ap, ◌∙◌, subst}
 use Rattle.luau_tree.specs.View.{view_expr}
 use Rattle.report_work.specs.Moves.{zipped}
-use Rattle.context_types.specs.Lists.{first_ref, way_context}
+use Rattle.context_types.specs.Lists.{way_context}
 use Rattle.context_types.specs.Standing.{StandsContext}
 use Rattle.context_types.specs.Types.{context_in}
 use Rattle.context_types.proofs.GrowFacts.{context_on, context_stays, all_contexts_on, contexts_stay}

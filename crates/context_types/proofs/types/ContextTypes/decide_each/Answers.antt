@@ -1,10 +1,10 @@
-use Rattle.std.proofs.Common.{[], ◌≡◌, ◌<◌, length, get_or, refl, sym, ap, ◌∙◌, subst, arith}
+use Rattle.std.proofs.Common.{◌≡◌, ◌<◌, length, sym, ap, ◌∙◌, subst, arith}
 use Rattle.std.specs.Prelude.{All, map}
 use Rattle.std.proofs.lemmas.List.Elements.{All-nil}
-use Rattle.context_types.specs.Lists.{no_context, way_context}
+use Rattle.context_types.specs.Lists.{way_context}
 use Rattle.context_types.specs.Standing.{StandsContext}
 use Rattle.context_types.specs.Types.{context_in}
-use Rattle.context_types.proofs.GrowFacts.{grows_nothing, grows_then, guard_on, says_on, context_on, context_stays}
+use Rattle.context_types.proofs.GrowFacts.{grows_nothing, grows_then, guard_on, says_on, context_on}
 use Rattle.context_types.proofs.ListFacts.{one_stands, stand_more, zip_two, zip_all}
 use Rattle.context_types.proofs.types.ContextTypes.decide_each.Goals as goal
 

@@ -1,7 +1,6 @@
-use Rattle.std.proofs.Common.{[], get_or, refl, sym, ap, ◌∙◌, subst}
-use Rattle.std.specs.Prelude.{All, map}
+use Rattle.std.proofs.Common.{get_or, ap, ◌∙◌}
+use Rattle.std.specs.Prelude.{map}
 use Rattle.std.proofs.lemmas.List.{take_all}
-use Rattle.type_arena.specs.declared.node.TypeRef.{TypeRef}
 use Rattle.context_types.specs.Lists.{each_term, refs_each}
 use Rattle.context_types.specs.Types.{set_in}
 use Rattle.context_types.proofs.GrowFacts.{all_stand_on, grows_then}

@@ -1,10 +1,9 @@
 use Rattle.std.proofs.Common.{[], ◌∷◌, refl, ap, ◌∙◌}
-use Rattle.std.specs.Prelude.{true}
 use Rattle.type_normal.specs.Growing.{given_refs}
 use Rattle.type_normal.specs.Rows.{is_normal}
 use Rattle.error_context.proofs.NormalFacts.{field_normal}
 use Rattle.context_types.specs.Types.{set_in}
-use Rattle.context_types.proofs.MadeFacts.{none_stand, one_stands, two_stand, call_adds, kept_after, stands_after}
+use Rattle.context_types.proofs.MadeFacts.{one_stands, call_adds, kept_after, stands_after}
 use Rattle.context_types.proofs.types.ContextTypes.field_is.Goals as goal
 
 pub invariant_of-self : goal.invariant_of-self

@@ -1,7 +1,6 @@
-use Rattle.std.proofs.Common.{[], ◌∷◌, ◌++◌, refl}
-use Rattle.type_normal.specs.Growing.{given_refs}
+use Rattle.std.proofs.Common.{[], ◌++◌, refl}
 use Rattle.error_context.specs.Entries.{refs_in}
-use Rattle.context_types.proofs.MadeFacts.{one_stands, all_made, kept_made}
+use Rattle.context_types.proofs.MadeFacts.{kept_made}
 use Rattle.context_types.proofs.ContextFacts.{both_made, context_after}
 use Rattle.context_types.proofs.types.ContextTypes.followed.Goals as goal
 

@@ -1,14 +1,10 @@
-use Rattle.std.proofs.Common.{[], ◌∷◌, ◌∙◌, refl, true, false}
-use Rattle.std.specs.Prelude.{All}
-use Rattle.std.proofs.lemmas.List.Elements.{All-nil, All-weaker}
+use Rattle.std.proofs.Common.{[], ◌∙◌, true, false}
 use Rattle.luau_tree.specs.View.{view_expr}
 use Rattle.type_arena.specs.Arena.{store_of}
 use Rattle.type_arena.specs.Meaning.{term_of}
 use Rattle.type_normal.specs.Growing.{given_refs}
 use Rattle.error_context.specs.Entries.{refs_in}
 use Rattle.guards.specs.Guards.{guard_refs}
-use Rattle.guards.specs.Own.{IsOwn}
-use Rattle.context_types.specs.Confined.{IsMade}
 use Rattle.context_types.specs.Types.{outside_of}
 use Rattle.context_types.proofs.MadeFacts.{call_adds, none_stand, kept_after}
 use Rattle.context_types.proofs.ContextFacts.{same_said, is_guard, own_there, own_made}

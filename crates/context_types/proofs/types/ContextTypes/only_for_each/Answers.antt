@@ -1,8 +1,7 @@
-use Rattle.std.proofs.Common.{[], get_or, refl, sym, ap, ◌∙◌, subst}
+use Rattle.std.proofs.Common.{sym, ap, ◌∙◌, subst}
 use Rattle.std.specs.Prelude.{All, map}
 use Rattle.std.proofs.lemmas.List.{take_all}
 use Rattle.std.proofs.lemmas.List.Elements.{All-nil}
-use Rattle.type_arena.specs.declared.node.TypeRef.{TypeRef}
 use Rattle.report_rules.specs.Context.{only_for}
 use Rattle.context_types.specs.Standing.{StandsContext}
 use Rattle.context_types.specs.Types.{set_in, context_in}

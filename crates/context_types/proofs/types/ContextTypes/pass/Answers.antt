@@ -1,8 +1,7 @@
-use Rattle.std.proofs.Common.{[], ◌∷◌, ◌++◌, refl}
-use Rattle.type_normal.specs.Growing.{given_refs}
+use Rattle.std.proofs.Common.{[], refl}
 use Rattle.error_context.specs.Entries.{refs_in}
-use Rattle.context_types.proofs.MadeFacts.{one_stands, all_made, kept_made}
-use Rattle.context_types.proofs.ContextFacts.{both_made, context_after}
+use Rattle.context_types.proofs.MadeFacts.{kept_made}
+use Rattle.context_types.proofs.ContextFacts.{context_after}
 use Rattle.context_types.proofs.types.ContextTypes.pass.Goals as goal
 
 pub invariant_of-self : goal.invariant_of-self
