@@ -8,7 +8,7 @@ use Rattle.std.specs.Ordering.{is_lt, bool_cmp, ordering_then, ordering_reverse}
 use Rattle.std.specs.Cmp.{IsTotalOrder, bool_cmp_total}
 use Rattle.std.proofs.lemmas.Cmp.{lists_total}
 use Rattle.type_arena.specs.Term.{Members, only, all_but, Free, Term, term, Rows, no_rows, more_rows, Fields, no_fields, more_fields}
-use Rattle.type_normal.specs.Members.{by_order, put, in_order, has_member, common, less, either_set, both_sets, outside, members_cmp, is_in_order, listed}
+use Rattle.type_normal.specs.Members.{by_order, put, in_order, has_member, either_set, both_sets, outside, members_cmp, is_in_order, listed}
 use Rattle.type_normal.specs.Free.{name_cmp, function_cmp, either_free, both_free, outside_free, free_cmp, is_normal_free}
 use Rattle.type_normal.specs.Rows.{names_cmp, term_cmp, rows_cmp, types_cmp, row_cmp, put_row, put_rows, rows_in_order, any_table, is_empty, is_unknown, has_empty, known_fields, put_normal, names_in_order, comes_first, is_normal, are_normal_rows, are_normal_fields}
 use Rattle.type_normal.specs.Operations.{union, put_field, meet_each, meet, meet_rows, meet_fields, other_tables, not_free}
@@ -176,7 +176,7 @@ outside_normal a p =
     both _ _ (outside_sorted name_cmp names_total a.strings (left _ _ p)) (outside_sorted function_cmp functions_total a.functions (right (is_in_order name_cmp (listed a.strings)) _ p))
 
 -- one row in normal form, and a row that is put among rows
-abbrev normal_row : Fields → Bool
+abbrev pub normal_row : Fields → Bool
 normal_row fs = names_in_order fs && are_normal_fields fs
 
 first_by : (c b d : Bool) (hs fs gs : Fields) (r : Rows) (o : Ordering) → is_lt (row_cmp c hs b fs) ≡ true → is_lt (row_cmp c hs d gs) ≡ true
@@ -196,7 +196,7 @@ put_row_by b d fs gs r Equal e n all ih = all
 put_row_by b d fs gs r Greater e n all ih =
     both _ _ (left _ _ all) (both _ _ (first_put d b gs fs r (turned_lt (row_cmp b fs d gs) (row_cmp d gs b fs) (row_turn d b gs fs) e) (left _ _ (right (normal_row gs) _ all))) ih)
 
-put_row_normal : (b : Bool) (fs : Fields) (r : Rows) → normal_row fs ≡ true → are_normal_rows r ≡ true → are_normal_rows (put_row b fs r) ≡ true
+pub put_row_normal : (b : Bool) (fs : Fields) (r : Rows) → normal_row fs ≡ true → are_normal_rows r ≡ true → are_normal_rows (put_row b fs r) ≡ true
 put_row_normal b fs no_rows n all = both _ _ n refl
 put_row_normal b fs (more_rows d gs r) n all =
     put_row_by b d fs gs r (row_cmp b fs d gs) refl n all (put_row_normal b fs r n (right (comes_first d gs r) _ (right (normal_row gs) _ all)))
@@ -212,32 +212,32 @@ union_normal (term f r) (term g s) p q =
     (put_rows_normal r (rows_in_order s) (right (is_normal_free f) _ p) (put_rows_normal s no_rows (right (is_normal_free g) _ q) refl))
 
 -- names of fields in order
-abbrev names_first : List ℕ → Fields → Bool
+abbrev pub names_first : List ℕ → Fields → Bool
 names_first p no_fields = true
 names_first p (more_fields q u fs) = is_lt (name_cmp p q)
 
-names_cons : (p : List ℕ) (t : Term) (fs : Fields) → names_first p fs ≡ true → names_in_order fs ≡ true → names_in_order (more_fields p t fs) ≡ true
+pub names_cons : (p : List ℕ) (t : Term) (fs : Fields) → names_first p fs ≡ true → names_in_order fs ≡ true → names_in_order (more_fields p t fs) ≡ true
 names_cons p t no_fields a b = refl
 names_cons p t (more_fields q u fs) a b = both _ _ a b
 
-names_head : (p : List ℕ) (t : Term) (fs : Fields) → names_in_order (more_fields p t fs) ≡ true → names_first p fs ≡ true
+pub names_head : (p : List ℕ) (t : Term) (fs : Fields) → names_in_order (more_fields p t fs) ≡ true → names_first p fs ≡ true
 names_head p t no_fields a = refl
 names_head p t (more_fields q u fs) a = left _ _ a
 
-names_tail : (p : List ℕ) (t : Term) (fs : Fields) → names_in_order (more_fields p t fs) ≡ true → names_in_order fs ≡ true
+pub names_tail : (p : List ℕ) (t : Term) (fs : Fields) → names_in_order (more_fields p t fs) ≡ true → names_in_order fs ≡ true
 names_tail p t no_fields a = refl
 names_tail p t (more_fields q u fs) a = right (is_lt (name_cmp p q)) _ a
 
-names_later : (p q : List ℕ) (fs : Fields) → is_lt (name_cmp p q) ≡ true → names_first q fs ≡ true → names_first p fs ≡ true
+pub names_later : (p q : List ℕ) (fs : Fields) → is_lt (name_cmp p q) ≡ true → names_first q fs ≡ true → names_first p fs ≡ true
 names_later p q no_fields a b = refl
 names_later p q (more_fields s u fs) a b = ap is_lt (names_total.trans p q s (lt_is (name_cmp p q) a) (lt_is (name_cmp q s) b))
 
 -- whether each field has a type in normal form
-abbrev each_normal : Fields → Bool
+abbrev pub each_normal : Fields → Bool
 each_normal no_fields = true
 each_normal (more_fields p t fs) = is_normal t && each_normal fs
 
-fields_each : (fs : Fields) → are_normal_fields fs ≡ true → each_normal fs ≡ true
+pub fields_each : (fs : Fields) → are_normal_fields fs ≡ true → each_normal fs ≡ true
 fields_each no_fields e = refl
 fields_each (more_fields p t fs) e = both _ _ (left _ _ e) (fields_each fs (right (not (is_empty t || is_unknown t)) _ (right (is_normal t) _ e)))
 
@@ -279,7 +279,7 @@ put_normal_by : (b : Bool) (fs : Fields) (r : Rows) (e : Bool) → has_empty fs 
 put_normal_by b fs r true h n each all = all
 put_normal_by b fs r false h n each all = put_row_normal b (known_fields fs) r (both _ _ (known_names fs n) (known_normal fs each h)) all
 
-put_normal_normal : (b : Bool) (fs : Fields) (r : Rows) → names_in_order fs ≡ true → each_normal fs ≡ true → are_normal_rows r ≡ true → are_normal_rows (put_normal b fs r) ≡ true
+pub put_normal_normal : (b : Bool) (fs : Fields) (r : Rows) → names_in_order fs ≡ true → each_normal fs ≡ true → are_normal_rows r ≡ true → are_normal_rows (put_normal b fs r) ≡ true
 put_normal_normal b fs r n each all = put_normal_by b fs r (has_empty fs) refl n each all
 
 -- a field that is put among fields
@@ -300,7 +300,7 @@ field_names_by n q t u w fs Equal e a ih = names_cons q (w u) fs (names_head q u
 field_names_by n q t u w fs Greater e a ih =
     names_cons q u (put_field n t w fs) (field_first q n t w fs (turned_lt (name_cmp n q) (name_cmp q n) (names_total.antisymm q n) e) (names_head q u fs a)) ih
 
-field_names : (n : List ℕ) (t : Term) (w : Term → Term) (fs : Fields) → names_in_order fs ≡ true → names_in_order (put_field n t w fs) ≡ true
+pub field_names : (n : List ℕ) (t : Term) (w : Term → Term) (fs : Fields) → names_in_order fs ≡ true → names_in_order (put_field n t w fs) ≡ true
 field_names n t w no_fields a = refl
 field_names n t w (more_fields q u fs) a = field_names_by n q t u w fs (name_cmp n q) refl a (field_names n t w fs (names_tail q u fs a))
 
@@ -310,12 +310,12 @@ field_each_by n q t u w fs Less x y z a ih = both _ _ x (both _ _ y a)
 field_each_by n q t u w fs Equal x y z a ih = both _ _ z a
 field_each_by n q t u w fs Greater x y z a ih = both _ _ y ih
 
-field_each : (n : List ℕ) (t : Term) (w : Term → Term) (fs : Fields) → is_normal t ≡ true → ((u : Term) → is_normal u ≡ true → is_normal (w u) ≡ true) → each_normal fs ≡ true → each_normal (put_field n t w fs) ≡ true
+pub field_each : (n : List ℕ) (t : Term) (w : Term → Term) (fs : Fields) → is_normal t ≡ true → ((u : Term) → is_normal u ≡ true → is_normal (w u) ≡ true) → each_normal fs ≡ true → each_normal (put_field n t w fs) ≡ true
 field_each n t w no_fields x k a = both _ _ x refl
 field_each n t w (more_fields q u fs) x k a =
     field_each_by n q t u w fs (name_cmp n q) x (left _ _ a) (k u (left _ _ a)) (right (is_normal u) _ a) (field_each n t w fs x k (right (is_normal u) _ a))
 
-meet_names : (fs gs : Fields) → names_in_order fs ≡ true → names_in_order gs ≡ true → names_in_order (meet_fields fs gs) ≡ true
+pub meet_names : (fs gs : Fields) → names_in_order fs ≡ true → names_in_order gs ≡ true → names_in_order (meet_fields fs gs) ≡ true
 meet_names no_fields gs a b = b
 meet_names (more_fields p t fs) gs a b = field_names p t (meet t) (meet_fields fs gs) (meet_names fs gs (names_tail p t fs a) b)
 
@@ -339,7 +339,7 @@ mutual
       (λ gs n. meet_each_normal fs gs (fields_each fs (right (names_in_order fs) _ (left (normal_row fs) _ p))) (fields_each gs (right (names_in_order gs) _ n)))
       q (meet_rows_normal r s (right (comes_first b fs r) _ (right (normal_row fs) _ p)) q)
 
-  meet_each_normal : (fs gs : Fields) → each_normal fs ≡ true → each_normal gs ≡ true → each_normal (meet_fields fs gs) ≡ true
+  pub meet_each_normal : (fs gs : Fields) → each_normal fs ≡ true → each_normal gs ≡ true → each_normal (meet_fields fs gs) ≡ true
   meet_each_normal no_fields gs a b = b
   meet_each_normal (more_fields p t fs) gs a b =
       field_each p t (meet t) (meet_fields fs gs) (left _ _ a) (λ u k. meet_normal t u (left _ _ a) k) (meet_each_normal fs gs (right (is_normal t) _ a) b)

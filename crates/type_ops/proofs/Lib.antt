@@ -11,3 +11,4 @@ pub mod NameFacts
 pub mod MeetFacts
 pub mod MetTypeFacts
 pub mod KeepFacts
+pub mod FieldKeeps
