@@ -123,7 +123,7 @@ choice_one rules cond has_effects cond_fails value rest = join cond_fails (pass 
 abbrev pub chosen : Rules → Expr → (has_effects : Bool) → Work → Work
 chosen rules cond has_effects work = record work {
   fails = zipped (choice_one rules cond has_effects (first_answer work)) (list_of (rest_of work.fails)) (list_of (rest_of (rest_of work.fails)))
-    ∷ rest_of (rest_of (rest_of work.fails));
+      ∷ rest_of (rest_of (rest_of work.fails));
 }
 
 -- ## The context behind
