@@ -1,0 +1,8 @@
+mod Answering
+mod Calling
+mod Kept
+mod NameLists
+mod Numbered
+mod Reading
+mod Starting
+mod Summing
