@@ -1,0 +1,12 @@
+use Rattle.std.proofs.Common.{arith}
+use Rattle.std.proofs.lemmas.Result.{on_ok_weaker}
+use Rattle.luau_tree.specs.View.{view_choices, view_expr}
+use Rattle.report_plan.proofs.EvForms.{if_else_form}
+use Rattle.report_plan.proofs.Plans.{put_as, put_both}
+use Rattle.report_plan.proofs.branches.if_else.Goals as goal
+
+pub returns : goal.returns
+returns c =
+    on_ok_weaker c.plan-2.result (λ p id. put_as _ _ _ _ _ _
+    (λ rules seen work. if_else_form rules seen id (view_choices c.args.choices.now) (view_expr c.args.last.now) work) (omega arith)
+    (put_both _ _ _ _ _ _ _ (put_both _ _ _ _ _ _ _ c.in_ok-plan.ensures c.in_ok-each_choice.ensures) p)) c.plan-2.ensures

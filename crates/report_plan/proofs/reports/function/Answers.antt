@@ -1,0 +1,9 @@
+use Rattle.std.proofs.Common.{arith}
+use Rattle.std.proofs.lemmas.Result.{on_ok_weaker}
+use Rattle.luau_tree.specs.View.{view_body}
+use Rattle.report_plan.proofs.FoundForms.{function_parts}
+use Rattle.report_plan.proofs.Plans.{put_as}
+use Rattle.report_plan.proofs.reports.function.Goals as goal
+
+pub returns : goal.returns
+returns c = on_ok_weaker c.plan.result (λ p how id span. put_as _ _ _ _ _ _ (λ rules seen work. function_parts rules seen how id span (view_body c.args.body.now) work) (omega arith) p) c.plan.ensures

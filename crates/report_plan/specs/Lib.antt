@@ -1,0 +1,4 @@
+pub mod Run
+pub mod Weights
+pub mod Puts
+pub mod Keys
