@@ -122,11 +122,14 @@ module _ (table : List (List ℕ × Signature)) (files : List File) (plan : Plan
     accepted_from rest (suc k) (suc home) (λ j p e. ap (λ (i : ℕ). slice_get order i) (omega arith) ∙ there (suc j) p e),
   )
 
+  pub are_earlier : RequireEarlier 0 (map (rules_alone table) (modules_of table files plan))
+  are_earlier = earlier_from order 0 1 (λ j p e. ap (λ (i : ℕ). slice_get order i) (omega arith) ∙ e)
+
   pub is_folder : are_paths (paths_of table) ≡ true → IsFolder table (modules_of table files plan)
   is_folder paths = record {
     paths = paths;
     homes = homes_are_distinct needs files order order;
-    order = earlier_from order 0 1 (λ j p e. ap (λ (i : ℕ). slice_get order i) (omega arith) ∙ e);
+    order = are_earlier;
     trees = accepted_from order 0 1 (λ j p e. ap (λ (i : ℕ). slice_get order i) (omega arith) ∙ e);
   }
 

@@ -3,4 +3,4 @@
 
 mod module;
 
-pub use module::bare;
+pub use module::{MAX_DEPTH, bare, block_at, expression_at, type_at};

@@ -22,7 +22,7 @@ use std::alloc::Global;
 use type_reader::Types;
 
 /// Deep enough for each text without a token at a level above 200.
-const MAX_DEPTH: usize = 202;
+pub const MAX_DEPTH: usize = 202;
 
 /// A block in which no phrase may nest.
 #[tactic(auto, unfolding(luau_grammar::specs::ReadModules::too_deep))]
@@ -41,8 +41,9 @@ pub fn shallow_block(
     }
 }
 
+/// What stands in an expression, with phrases that hold one another at most so many deep.
 #[cycle(phrases)]
-fn expression_at(
+pub fn expression_at(
     alloc: Global,
     text: &[u8],
     tokens: &mut Tokens<'_, '_>,
@@ -66,8 +67,10 @@ fn expression_at(
     exprs.expression_inside(tokens)
 }
 
+/// What stands in a type, whose list in parentheses may have been read, with phrases that hold one another at most so many
+/// deep.
 #[cycle(phrases)]
-fn type_at(
+pub fn type_at(
     alloc: Global,
     text: &[u8],
     tokens: &mut Tokens<'_, '_>,
@@ -92,8 +95,9 @@ fn type_at(
     types.type_inside(tokens, begun)
 }
 
+/// What stands in a block, with phrases that hold one another at most so many deep.
 #[cycle(phrases)]
-fn block_at(
+pub fn block_at(
     alloc: Global,
     text: &[u8],
     tokens: &mut Tokens<'_, '_>,

@@ -1,0 +1,13 @@
+pub mod HandFacts
+pub mod AtFacts
+pub mod StackFacts
+pub mod LeftFacts
+pub mod FactsRead
+pub mod Reversed
+pub mod CheckFacts
+pub mod KindFacts
+pub mod SeenFacts
+pub mod BehindFacts
+pub mod LoopFacts
+pub mod ReportFacts
+pub mod SetFacts

@@ -1,0 +1,36 @@
+use Rattle.std.proofs.Common.{◌≡◌, ◌∷◌, [], List, refl, sym, ap, ◌∙◌, subst}
+use Rattle.std.specs.Prelude.{Bool, map, reverse, is_ok}
+use Rattle.luau_tree.specs.View.{view_binds, view_expr, view_stat}
+use Rattle.error_context.specs.declared.context.Context.{Context}
+use Rattle.report_rules.specs.Context.{Context as PlainContext, none, without, pass}
+use Rattle.report_rules.specs.Statements.{before_write, for_values}
+use Rattle.module_facts.specs.Targets.{target_meant}
+use Rattle.context_types.specs.Lists.{no_context, first_ref}
+use Rattle.context_types.specs.Standing.{Grows, Stands, StandsContext}
+use Rattle.context_types.specs.Types.{set_in, context_in}
+use Rattle.context_types.proofs.GrowFacts.{grows_nothing, context_on, all_contexts_on}
+use Rattle.context_types.proofs.ListFacts.{nothing_stands, rest_meant, rest_all}
+use Rattle.report_work.specs.Moves.{first_of, rest_of}
+use Rattle.report_state.specs.At.{at_of, hand_of}
+use Rattle.report_state.proofs.AtFacts.{at_behind, at_aside, at_behind_aside, aside_same, behind_same}
+use Rattle.report_state.proofs.HandFacts.{with_aside}
+use Rattle.report_state.proofs.StackFacts.{all_reversed, rest_kept, first_kept, rest_stand, first_stand, more_kept}
+use Rattle.report_state.proofs.BehindFacts.{other_behind, known_then, written_then, facts_read}
+use Rattle.report_state.proofs.state.ReportState.keep.Goals as goal
+
+pub invariant_of-self : goal.invariant_of-self
+invariant_of-self c =
+    let state = c.args.self.now in
+    record {
+      ordered = state.ordered;
+      known = state.known;
+      written = state.written;
+      sound = with_aside state.types (hand_of state) (reverse c.push.new.self.items) state.sound (all_reversed (StandsContext state.types) state.aside.items c.push.new.self.items c.in_ok-copy.copy (is_ok c.push.result) c.push.ensures.items state.sound.aside_stand (subst (StandsContext state.types) (sym c.in_ok-copy.ensures) state.sound.behind_stands));
+    }
+
+pub returns : goal.returns
+unfolding at_of
+returns c =
+    let state = c.args.self.now in
+    let types = state.types in
+    at_aside state types (reverse c.push.new.self.items) _ (grows_nothing {s = state.types}) (more_kept (context_in types) state.aside.items c.push.new.self.items c.in_ok-copy.copy c.in_ok-push.ensures.items ∙ ap (λ (x : Context). context_in types x ∷ map (context_in types) (reverse state.aside.items)) c.in_ok-copy.ensures)

@@ -1,0 +1,94 @@
+use Rattle.std.proofs.Common.{◌≡◌, ℕ, [], ◌∷◌, ◌++◌, List, refl, sym, ap, ◌∙◌, subst}
+use Rattle.std.specs.Prelude.{All, true, false, Bool, map, reverse, is_ok, Option, Some, None, option_map, if◌then◌else◌}
+use Rattle.std.proofs.lemmas.List.Elements.{All-nil, All-cons, All-same}
+use Rattle.luau_tree.specs.View.{view_expr}
+use Rattle.luau_tree.specs.declared.names.LocalId.{LocalId}
+use Rattle.type_arena.specs.Term.{Term, never}
+use Rattle.type_arena.specs.declared.node.TypeRef.{TypeRef}
+use Rattle.type_fields.specs.Plain.{plain_term, failing_term}
+use Rattle.type_normal.specs.Operations.{union as union_term}
+use Rattle.type_normal.specs.Failing.{index_fail, write_fail}
+use Rattle.type_normal.specs.Kinds.{field_is as field_is_term}
+use Rattle.error_context.specs.declared.context.Context.{Context}
+use Rattle.report_rules.specs.Context.{Context as PlainContext, none, followed}
+use Rattle.report_rules.specs.Errors.{name_context, index_kinds, read_set}
+use Rattle.report_rules.specs.Statements.{compound_base_set}
+use Rattle.report_rules.specs.Checks.{left}
+use Rattle.report_rules.specs.Rules.{Rules}
+use Rattle.context_types.specs.Lists.{each_term, refs_each, no_context, first_ref, way_context}
+use Rattle.context_types.specs.declared.deciding.Way.TheVariants.{And, Or, Choice}
+use Rattle.context_types.specs.Standing.{Grows, Stands, StandsContext}
+use Rattle.context_types.specs.Types.{set_in, context_in}
+use Rattle.context_types.proofs.GrowFacts.{grows_nothing, grows_then, stands_on, set_stays, all_stand_on, sets_stay, context_on, context_stays, all_contexts_on, contexts_stay}
+use Rattle.context_types.proofs.ListFacts.{nothing_stands, rest_meant, rest_all, first_meant, first_stands}
+use Rattle.report_work.specs.Moves.{first_of, list_of, rest_of, asked_one, asked_by, answered, zipped, parts_among}
+use Rattle.module_facts.specs.Facts.{rules_of_facts}
+use Rattle.report_state.specs.At.{At, at_of, hand_of, doing, ruled, seeing}
+use Rattle.report_state.specs.Hand.{stacked, IsSound, Hand}
+use Rattle.report_state.proofs.AtFacts.{at_same, at_sets, at_fails, at_sets_fails, at_behind, at_fails_behind, at_aside, at_behind_aside, at_aside_loops, at_all_loops, at_loops, sets_same, fails_same, behind_same, aside_same, breaks_same, continues_same, on_ok}
+use Rattle.report_state.proofs.HandFacts.{knows_on, written_on, sound_on, set_lists_on, context_lists_on, top_all, top_meant, with_sets, with_fails, with_behind, with_aside, with_breaks, with_continues}
+use Rattle.report_state.proofs.StackFacts.{stacked_more, reversed_more, all_stacked, all_reversed, rest_kept, top_kept, first_kept, rest_stand, top_stand, first_stand, pushed_kept, more_kept, spread_kept, spread_stand}
+use Rattle.report_state.proofs.LeftFacts.{left_expanding, left_unwanted, left_wanted, left_by_test, kinds_by_test, asked_twice}
+use Rattle.report_state.proofs.FactsRead.{facts_read}
+use Rattle.report_state.proofs.state.ReportState.met.Goals as goal
+
+pub followed-requires-clause-part : goal.followed-requires-clause-part
+followed-requires-clause-part c =
+    let types = c.args.self.now.types in
+    let old = stacked c.args.self.now.fails.items in
+    first_stand types c.take_contexts-fails.result.items c.in_ok-first.first c.in_ok-first.ensures (top_stand (StandsContext types) old c.take_contexts-fails.result.items c.take_contexts-fails.ensures.list c.args.self.now.sound.fails_stand)
+
+pub followed-requires-clause-rest : goal.followed-requires-clause-rest
+followed-requires-clause-rest c = subst (StandsContext c.args.self.now.types) (sym c.replace-behind.ensures.value) c.args.self.now.sound.behind_stands
+
+pub invariant_of-self : goal.invariant_of-self
+invariant_of-self c =
+    let types = c.args.self.now.types in
+    let old = stacked c.args.self.now.fails.items in
+    let rest = stacked c.take_contexts-fails.new.stack.items in
+    record {
+  ordered = c.args.self.now.ordered;
+  known = c.args.self.now.known;
+  written = c.args.self.now.written;
+  sound = with_fails types (hand_of c.args.self.now) rest c.args.self.now.sound (rest_stand (All (StandsContext types)) old rest c.take_contexts-fails.ensures.rest c.args.self.now.sound.fails_stand);
+}
+
+pub invariant_of-self-in-Break-branch-2 : goal.invariant_of-self-in-Break-branch-2
+invariant_of-self-in-Break-branch-2 c =
+    let types = c.args.self.now.types in
+    let t = c.followed.new.self in
+    let old = stacked c.args.self.now.fails.items in
+    let rest = stacked c.take_contexts-fails.new.stack.items in
+    record {
+  ordered = c.args.self.now.ordered;
+  known = knows_on c.args.self.now.types t c.args.self.now.facts c.args.self.now.seen.now c.args.self.now.params.now c.args.self.now.summary c.followed.ensures.grows c.args.self.now.known;
+  written = written_on c.args.self.now.types t c.args.self.now.facts c.args.self.now.seen.now c.args.self.now.params.now c.args.self.now.summary c.followed.ensures.grows c.args.self.now.known c.args.self.now.written;
+  sound = with_behind t (record (hand_of c.args.self.now) { fails = rest }) c.replace-behind.new.dest (sound_on types t (record (hand_of c.args.self.now) { fails = rest }) c.followed.ensures.grows (with_fails types (hand_of c.args.self.now) rest c.args.self.now.sound (rest_stand (All (StandsContext types)) old rest c.take_contexts-fails.ensures.rest c.args.self.now.sound.fails_stand))) (subst (StandsContext t) (sym (c.replace-behind.ensures.after ∙ c.nothing.ensures)) (nothing_stands t));
+}
+
+pub invariant_of-self-2 : goal.invariant_of-self-2
+invariant_of-self-2 c =
+    let types = c.args.self.now.types in
+    let t = c.followed.new.self in
+    let old = stacked c.args.self.now.fails.items in
+    let rest = stacked c.take_contexts-fails.new.stack.items in
+    record {
+  ordered = c.args.self.now.ordered;
+  known = knows_on c.args.self.now.types t c.args.self.now.facts c.args.self.now.seen.now c.args.self.now.params.now c.args.self.now.summary c.followed.ensures.grows c.args.self.now.known;
+  written = written_on c.args.self.now.types t c.args.self.now.facts c.args.self.now.seen.now c.args.self.now.params.now c.args.self.now.summary c.followed.ensures.grows c.args.self.now.known c.args.self.now.written;
+  sound = with_behind t (record (hand_of c.args.self.now) { fails = rest }) c.in_ok-made.made (sound_on types t (record (hand_of c.args.self.now) { fails = rest }) c.followed.ensures.grows (with_fails types (hand_of c.args.self.now) rest c.args.self.now.sound (rest_stand (All (StandsContext types)) old rest c.take_contexts-fails.ensures.rest c.args.self.now.sound.fails_stand))) c.in_ok-made.ensures.stands;
+}
+
+pub returns : goal.returns
+unfolding at_of
+returns c =
+    let state = c.args.self.now in
+    let types = state.types in
+    let t = c.followed.new.self in
+    let old = stacked state.fails.items in
+    let rest = stacked c.take_contexts-fails.new.stack.items in
+    let list = c.take_contexts-fails.result.items in
+    let first = first_kept types types list c.in_ok-first.first c.in_ok-first.ensures refl ∙ ap first_of (top_kept (context_in types) (context_in types) old list c.take_contexts-fails.ensures.list refl) in
+    at_fails_behind state t rest _ c.in_ok-made.made _ c.followed.ensures.grows
+    (rest_kept (map (context_in t)) (map (context_in types)) old rest c.take_contexts-fails.ensures.rest (fails_same state t c.followed.ensures.grows))
+    (c.in_ok-made.ensures.context ∙ (λ i. followed (first i) c.args.has_effects (context_in types (c.replace-behind.ensures.value i))))
